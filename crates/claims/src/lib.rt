@@ -1,0 +1,1 @@
+// Theorems over several floors: this crate has proofs only, in specs/.

@@ -1,0 +1,4 @@
+pub mod System
+pub mod Figures
+pub mod Answers
+pub mod Demands

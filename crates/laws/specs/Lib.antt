@@ -1,0 +1,14 @@
+pub mod Choice
+pub mod Sums
+pub mod Range
+pub mod Bytes
+pub mod Decimal
+pub mod BoolLaws
+pub mod BytesLaws
+pub mod DecimalLaws
+pub mod SumLaws
+pub mod RangeLaws
+pub mod Rows
+pub mod RowLaws
+pub mod Fields
+pub mod Steps

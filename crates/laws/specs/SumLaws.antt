@@ -1,0 +1,264 @@
+-- Laws of `Sums`: what is rounded up, summed up or maximised rises with its parts, and a sum or a product may be capped early.
+use Prim.Native.Nat.{ℕ, zero, suc, _+_, _-_, _*_, _/_, _≤_, _<_, min, max}
+use mathlib.Core.Bool.{Bool, true, false, _&&_, _||_, and-assoc, or-assoc}
+use mathlib.Core.List.{List, [], _∷_, _++_}
+use mathlib.Core.Path.{_≡_, refl, ap, ap₂, _∙_}
+use mathlib.Core.Logic.{_↔_, ⊎-elim, by-cases}
+use native.Mathlib.Nat.{div-zero, div-eq-of-lt, add-div-right, div-lt-iff-lt-mul, eq-zero-or-pos, mul-le-mul, le-refl, le-trans, le-mul-of-pos-right, add-le-add, min-eq-left, min-eq-right, max-le, mul-zero, mul-comm}
+use native.Mathlib.Omega.{arith}
+use native.Mathlib.Decide.{decLe}
+use lib.ListN.{length, getD}
+use Rattle.laws.specs.BoolLaws.{both-left, both-right, both, neither-left, neither-right}
+use Rattle.laws.specs.Choice.{when}
+use Rattle.laws.specs.Sums.{up, sum, greatest, any, all, first, flat, only, Each}
+
+-- ROUNDING UP
+
+-- t / p rounded up is at most k just where t is at most k times p
+pub up-least : (t k : ℕ) {p : ℕ} → 0 < p → (up t p ≤ k) ↔ (t ≤ k * p)
+unfolding up
+up-least t k {p} h = (
+  λ l. let z = div-lt-iff-lt-mul {x = t + (p - 1)} {y = suc k} h .0 (omega arith) in omega arith,
+  λ l. let z = div-lt-iff-lt-mul {x = t + (p - 1)} {y = suc k} h .1 (omega arith) in omega arith,
+)
+
+pub up-by-zero : (t : ℕ) → up t 0 ≡ 0
+unfolding up
+up-by-zero t = div-zero _
+
+pub up-rises : (p : ℕ) {t u : ℕ} → t ≤ u → up t p ≤ up u p
+up-rises p {t} {u} h =
+    ⊎-elim (λ e. rw e (simp up-by-zero (omega arith)))
+    (λ k. up-least t (up u p) k .1 (le-trans h (up-least u (up u p) k .0 (omega arith)))) (eq-zero-or-pos p)
+
+pub up-le : (t p : ℕ) → up t p ≤ t
+up-le t p =
+    ⊎-elim (λ e. rw e (simp up-by-zero (omega arith))) (λ k. up-least t t k .1 (le-mul-of-pos-right t k)) (eq-zero-or-pos p)
+
+-- with no sum that may wrap
+pub up-code : {t p : ℕ} → 0 < t → 0 < p → up t p ≡ (t - 1) / p + 1
+unfolding up
+up-code {t} {p} h k = ap (λ (n : ℕ). n / p) {x = t + (p - 1)} {y = (t - 1) + p} (omega arith) ∙ add-div-right (t - 1) k
+
+pub up-zero : (p : ℕ) → up 0 p ≡ 0
+unfolding up
+up-zero p = ⊎-elim (λ e. rw e) (λ k. div-eq-of-lt (omega arith)) (eq-zero-or-pos p)
+
+-- CHOICES
+
+pub when-rises : (b : Bool) {x y : ℕ} → x ≤ y → when b x ≤ when b y
+unfolding when
+when-rises true h = h
+when-rises false h = omega arith
+
+pub when-le : (b : Bool) (x : ℕ) → when b x ≤ x
+unfolding when
+when-le true x = omega arith
+when-le false x = omega arith
+
+pub max-rises : {a b c d : ℕ} → a ≤ c → b ≤ d → max a b ≤ max c d
+max-rises h k = omega arith
+
+-- SUMS
+
+pub sum-one : {A : Type 0} (f : A → ℕ) (x : A) → sum f (x ∷ []) ≡ f x
+unfolding sum
+sum-one f x = omega arith
+
+pub sum-append : {A : Type 0} (f : A → ℕ) (xs ys : List A) → sum f (xs ++ ys) ≡ sum f xs + sum f ys
+unfolding sum
+sum-append f [] ys = omega arith
+sum-append f (x ∷ xs) ys = omega (arith, sum-append f xs ys)
+
+pub sum-rises : {A : Type 0} (xs : List A) {f g : A → ℕ} → ((x : A) → f x ≤ g x) → sum f xs ≤ sum g xs
+unfolding sum
+sum-rises [] h = omega arith
+sum-rises (x ∷ xs) h = add-le-add (h x) (sum-rises xs h)
+
+pub sum-rises-on : {A : Type 0} (f g : A → ℕ) (xs : List A) → Each (λ x. f x ≤ g x) xs → sum f xs ≤ sum g xs
+unfolding sum
+sum-rises-on f g [] h = omega arith
+sum-rises-on f g (x ∷ xs) h = add-le-add (h .0) (sum-rises-on f g xs (h .1))
+
+pub sum-same : {A : Type 0} (xs : List A) {f g : A → ℕ} → ((x : A) → f x ≡ g x) → sum f xs ≡ sum g xs
+unfolding sum
+sum-same [] h = refl
+sum-same (x ∷ xs) h = ap₂ _+_ (h x) (sum-same xs h)
+
+-- no row above b
+pub sum-bound : {A : Type 0} (xs : List A) (b : ℕ) {f : A → ℕ} → ((x : A) → f x ≤ b) → sum f xs ≤ length xs * b
+unfolding sum
+sum-bound [] b h = omega arith
+sum-bound (x ∷ xs) b h = omega (arith, h x, sum-bound xs b h)
+
+-- no row is above the sum
+pub sum-at : {A : Type 0} (f : A → ℕ) (xs : List A) (i : ℕ) (d : A) → i < length xs → f (getD xs i d) ≤ sum f xs
+unfolding sum
+sum-at f [] i d h = absurd (omega arith)
+sum-at f (x ∷ xs) zero d h = omega arith
+sum-at f (x ∷ xs) (suc i) d h = omega (arith, sum-at f xs i d (omega arith))
+
+pub sum-flat : {A B : Type 0} (f : B → ℕ) (g : A → List B) (xs : List A) → sum f (flat g xs) ≡ sum (λ x. sum f (g x)) xs
+unfolding sum flat
+sum-flat f g [] = refl
+sum-flat f g (x ∷ xs) = sum-append f (g x) (flat g xs) ∙ ap (λ n. sum f (g x) + n) (sum-flat f g xs)
+
+-- MAXIMA
+
+pub greatest-one : {A : Type 0} (f : A → ℕ) (x : A) → greatest f (x ∷ []) ≡ f x
+unfolding greatest
+greatest-one f x = omega arith
+
+pub greatest-append : {A : Type 0} (f : A → ℕ) (xs ys : List A) → greatest f (xs ++ ys) ≡ max (greatest f xs) (greatest f ys)
+unfolding greatest
+greatest-append f [] ys = omega arith
+greatest-append f (x ∷ xs) ys = omega (arith, greatest-append f xs ys)
+
+pub greatest-rises : {A : Type 0} (xs : List A) {f g : A → ℕ} → ((x : A) → f x ≤ g x) → greatest f xs ≤ greatest g xs
+unfolding greatest
+greatest-rises [] h = omega arith
+greatest-rises (x ∷ xs) h = max-rises (h x) (greatest-rises xs h)
+
+pub greatest-rises-on : {A : Type 0} (f g : A → ℕ) (xs : List A) → Each (λ x. f x ≤ g x) xs → greatest f xs ≤ greatest g xs
+unfolding greatest
+greatest-rises-on f g [] h = omega arith
+greatest-rises-on f g (x ∷ xs) h = max-rises (h .0) (greatest-rises-on f g xs (h .1))
+
+pub greatest-same : {A : Type 0} (xs : List A) {f g : A → ℕ} → ((x : A) → f x ≡ g x) → greatest f xs ≡ greatest g xs
+unfolding greatest
+greatest-same [] h = refl
+greatest-same (x ∷ xs) h = ap₂ max (h x) (greatest-same xs h)
+
+pub greatest-bound : {A : Type 0} (xs : List A) (b : ℕ) {f : A → ℕ} → ((x : A) → f x ≤ b) → greatest f xs ≤ b
+unfolding greatest
+greatest-bound [] b h = omega arith
+greatest-bound (x ∷ xs) b h = max-le (h x) (greatest-bound xs b h)
+
+pub greatest-at : {A : Type 0} (f : A → ℕ) (xs : List A) (i : ℕ) (d : A) → i < length xs → f (getD xs i d) ≤ greatest f xs
+unfolding greatest
+greatest-at f [] i d h = absurd (omega arith)
+greatest-at f (x ∷ xs) zero d h = omega arith
+greatest-at f (x ∷ xs) (suc i) d h = omega (arith, greatest-at f xs i d (omega arith))
+
+pub greatest-sum : {A : Type 0} (f : A → ℕ) (xs : List A) → greatest f xs ≤ sum f xs
+unfolding greatest sum
+greatest-sum f [] = omega arith
+greatest-sum f (x ∷ xs) = omega (arith, greatest-sum f xs)
+
+-- TESTS
+
+pub any-append : {A : Type 0} (f : A → Bool) (xs ys : List A) → any f (xs ++ ys) ≡ (any f xs || any f ys)
+unfolding any
+any-append f [] ys = refl
+any-append f (x ∷ xs) ys = rw (any-append f xs ys, or-assoc)
+
+pub all-append : {A : Type 0} (f : A → Bool) (xs ys : List A) → all f (xs ++ ys) ≡ (all f xs && all f ys)
+unfolding all
+all-append f [] ys = refl
+all-append f (x ∷ xs) ys = rw (all-append f xs ys, and-assoc)
+
+-- the test of all, as a fact of each
+pub all-each : {A : Type 0} (f : A → Bool) (xs : List A) → all f xs ≡ true → Each (λ x. f x ≡ true) xs
+unfolding all
+all-each f [] h = tt
+all-each f (x ∷ xs) h = (both-left (f x) (all f xs) h, all-each f xs (both-right (f x) (all f xs) h))
+
+pub each-all : {A : Type 0} (f : A → Bool) (xs : List A) → Each (λ x. f x ≡ true) xs → all f xs ≡ true
+unfolding all
+each-all f [] h = refl
+each-all f (x ∷ xs) h = both (f x) (all f xs) (h .0) (each-all f xs (h .1))
+
+pub each-append : {A : Type 0} (P : A → Type 0) (xs ys : List A) → Each P xs → Each P ys → Each P (xs ++ ys)
+each-append P [] ys h k = k
+each-append P (x ∷ xs) ys h k = (h .0, each-append P xs ys (h .1) k)
+
+-- what follows in each row
+pub each-map : {A : Type 0} {P Q : A → Type 0} (xs : List A) → ((x : A) → P x → Q x) → Each P xs → Each Q xs
+each-map [] g h = tt
+each-map (x ∷ xs) g h = (g x (h .0), each-map xs g (h .1))
+
+pub each-at : {A : Type 0} (P : A → Type 0) (xs : List A) (i : ℕ) (d : A) → Each P xs → i < length xs → P (getD xs i d)
+each-at P [] i d h l = absurd (omega arith)
+each-at P (x ∷ xs) zero d h l = h .0
+each-at P (x ∷ xs) (suc i) d h l = each-at P xs i d (h .1) (omega arith)
+
+-- CHOSEN ROWS
+
+module _ {A : Type 0} (f : A → Bool) where
+  pub only-in : (x : A) (xs : List A) → f x ≡ true → only f (x ∷ xs) ≡ x ∷ only f xs
+  unfolding only
+  only-in x xs e = rw (e, only)
+
+  pub only-out : (x : A) (xs : List A) → f x ≡ false → only f (x ∷ xs) ≡ only f xs
+  unfolding only
+  only-out x xs e = rw (e, only)
+
+  pub sum-only : (g : A → ℕ) (xs : List A) → sum g (only f xs) ≡ sum (λ x. when (f x) (g x)) xs
+  unfolding sum only
+  sum-only g [] = refl
+  sum-only g (x ∷ xs) = go (f x) refl (sum-only g xs)
+    where
+      go :
+          (t : Bool) → f x ≡ t → sum g (only f xs) ≡ sum (λ y. when (f y) (g y)) xs →
+          sum g (only f (x ∷ xs)) ≡ when t (g x) + sum (λ y. when (f y) (g y)) xs
+      go true e h = rw (only-in x xs e) (unfold when in ap (λ n. g x + n) h)
+      go false e h = rw (only-out x xs e) (unfold when in omega arith)
+
+  pub first-in : (d x : A) (xs : List A) → f x ≡ true → first f d (x ∷ xs) ≡ x
+  unfolding first
+  first-in d x xs e = rw (e, first)
+
+  pub first-out : (d x : A) (xs : List A) → f x ≡ false → first f d (x ∷ xs) ≡ first f d xs
+  unfolding first
+  first-out d x xs e = rw (e, first)
+
+  -- some row passes: the first that does passes
+  pub first-passes : (d : A) (xs : List A) → any f xs ≡ true → f (first f d xs) ≡ true
+  unfolding any
+  first-passes d [] h = absurd (let z : _≡_ {A = ℕ} 0 1 = cc in omega arith)
+  first-passes d (x ∷ xs) h = go (f x) refl h (first-passes d xs)
+    where
+      go : (t : Bool) → f x ≡ t → (t || any f xs) ≡ true → (any f xs ≡ true → f (first f d xs) ≡ true) → f (first f d (x ∷ xs)) ≡ true
+      go true e h ih = rw (first-in d x xs e) e
+      go false e h ih = rw (first-out d x xs e) (ih h)
+
+  -- no row passes
+  pub first-none : (d : A) (xs : List A) → any f xs ≡ false → first f d xs ≡ d
+  unfolding any
+  first-none d [] h = unfold first in refl
+  first-none d (x ∷ xs) h = first-out d x xs (neither-left (f x) (any f xs) h) ∙ first-none d xs (neither-right (f x) (any f xs) h)
+
+-- MONOTONICITY
+
+-- what proves that a demand rises, from `h : t ≤ u` in reach: `search rise depth 9`
+pub ruleset rise = (le-refl, add-le-add, mul-le-mul, up-rises, when-rises, sum-rises, greatest-rises, max-rises)
+
+module _ {A : Type 0} (xs : List A) (p c e : A → ℕ) (on : A → A → Bool) where
+  -- a later time
+  later : (t u base : ℕ) → t ≤ u →
+      base + sum (λ x. when (on x x) ((up t (p x) + 1) * c x)) xs + greatest (λ x. sum (λ y. when (on x y) (up t (p y) * c x)) xs) xs
+      ≤ base + sum (λ x. when (on x x) ((up u (p x) + 1) * c x)) xs + greatest (λ x. sum (λ y. when (on x y) (up u (p y) * c x)) xs) xs
+  later t u base h = search rise depth 9
+
+  -- larger costs
+  cheaper : (t base : ℕ) → ((x : A) → c x ≤ e x) → base + sum (λ x. (up t (p x) + 1) * c x) xs ≤ base + sum (λ x. (up t (p x) + 1) * e x) xs
+  cheaper t base h = search rise depth 9
+
+-- CAPS
+
+pub cap-add-left : (a b c : ℕ) → min (min a c + b) c ≡ min (a + b) c
+cap-add-left a b c = omega arith
+
+pub cap-add-right : (a b c : ℕ) → min (a + min b c) c ≡ min (a + b) c
+cap-add-right a b c = omega arith
+
+pub cap-mul-left : (a b c : ℕ) → min (min a c * b) c ≡ min (a * b) c
+cap-mul-left a zero c = simp mul-zero
+cap-mul-left a (suc b) c =
+    by-cases (decLe a c) (λ h. rw (min-eq-left h)) (λ h. rw (min-eq-right {n = c} {m = a} (omega arith)) (omega arith))
+
+pub cap-mul-right : (a b c : ℕ) → min (a * min b c) c ≡ min (a * b) c
+cap-mul-right a b c = rw (mul-comm a (min b c), cap-mul-left b a c, mul-comm b a)
+
+-- a cap within a capped sum or product goes: `simp caps`
+pub ruleset caps = (cap-add-left, cap-add-right, cap-mul-left, cap-mul-right)

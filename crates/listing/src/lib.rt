@@ -1,0 +1,1 @@
+// What `verdict` prints, as definitions in specs/Listing.

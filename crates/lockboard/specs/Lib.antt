@@ -1,0 +1,3 @@
+pub mod Facts
+pub mod Board
+pub mod Events

@@ -1,0 +1,7 @@
+// The answer to a search. What it means stands in specs/Search.
+
+// The smallest number whose demand is not above it, or that there is none up to the limit; and the rounds.
+pub enum Answer {
+    Fits { w: u64, rounds: u64 },
+    Late { rounds: u64 },
+}

@@ -1,0 +1,13 @@
+//! An independent reference for the plans, the verdict and the lock board of document 01.
+#![forbid(unsafe_code)]
+
+pub mod board;
+pub mod events;
+pub mod figures;
+pub mod frames;
+pub mod generate;
+pub mod limits;
+pub mod plan;
+pub mod reading;
+pub mod search;
+pub mod verdict;

@@ -1,0 +1,146 @@
+//! The commands as they are run.
+
+mod common;
+
+use std::io::Write;
+use std::path::PathBuf;
+use std::process::{Command, Output, Stdio};
+
+use common::{text, worked};
+use oracle::events::board_text;
+use oracle::frames;
+use oracle::generate::{board_case, plan_case};
+use oracle::verdict::verdict_text;
+
+fn oracle(args: &[&str], input: &[u8]) -> Output {
+    let mut child = Command::new(env!("CARGO_BIN_EXE_oracle"))
+        .args(args)
+        .stdin(Stdio::piped())
+        .stdout(Stdio::piped())
+        .stderr(Stdio::piped())
+        .spawn()
+        .expect("the program starts");
+    let mut stdin = child.stdin.take().expect("its input");
+    let _ = stdin.write_all(input);
+    drop(stdin);
+    child.wait_with_output().expect("the program ends")
+}
+
+fn printed(args: &[&str], input: &[u8]) -> Vec<u8> {
+    let out = oracle(args, input);
+    assert_eq!(out.status.code(), Some(0), "{:?}", args);
+    assert!(out.stderr.is_empty());
+    out.stdout
+}
+
+/// A directory of this test's own.
+fn place(name: &str) -> PathBuf {
+    let dir = PathBuf::from(env!("CARGO_TARGET_TMPDIR")).join(name);
+    let _ = std::fs::remove_dir_all(&dir);
+    std::fs::create_dir_all(&dir).expect("a directory");
+    dir
+}
+
+#[test]
+fn verdict_and_reading() {
+    let plan = text(&worked("D O"));
+    assert_eq!(printed(&["verdict"], &plan), verdict_text(&plan));
+    assert_eq!(printed(&["verdict"], b""), b"refused\t1\t1\n");
+    assert_eq!(printed(&["verdict"], &[b'x'; 70_000]), b"refused\t8\t0\n");
+    assert_eq!(printed(&["reading"], &[b'x'; 70_000]), b"refused\t1\t1\n");
+    let expected = "accepted/policy D O/vcpu 1 1 0 3 20/vcpu 2 2 0 2 10/mutex 1 G/open 1 1/\
+                    open 1 2/task 1 1 1 100 2 1 1 1 2/task 2 2 1 50 1 1 1 2 1/";
+    assert_eq!(printed(&["reading"], &plan), text(expected));
+}
+
+#[test]
+fn board_reads_the_plan_file() {
+    let dir = place("board");
+    let file = dir.join("plan.tsv");
+    let name = file.to_string_lossy().into_owned();
+    assert_eq!(printed(&["board", &name], b"top\t1\n"), b"refused\t1\t1\n");
+    let plan = text(&worked("D O"));
+    std::fs::write(&file, &plan).expect("written");
+    assert_eq!(printed(&["board", &name], b"top\t1\n"), b"left\t3\t1\n");
+    assert_eq!(
+        printed(&["board", &name], &[b'\n'; 65_537]),
+        b"refused\t8\t0\n"
+    );
+}
+
+#[test]
+fn cases_and_corpora() {
+    let dir = place("corpora");
+    let file = dir.join("cases").to_string_lossy().into_owned();
+    assert!(printed(&["corpus", "5", "40", &file], b"").is_empty());
+    let mut plans = Vec::new();
+    let mut answers = Vec::new();
+    for index in 0..40 {
+        let case = plan_case(5, index);
+        frames::push(&mut plans, &case);
+        frames::push(&mut answers, &verdict_text(&case));
+    }
+    assert_eq!(std::fs::read(&file).expect("read"), plans);
+    assert_eq!(printed(&["answers", &file], b""), answers);
+    assert_eq!(printed(&["plan", "5", "3"], b""), plan_case(5, 3));
+
+    assert!(printed(&["board-corpus", "5", "40", &file], b"").is_empty());
+    let mut answers = Vec::new();
+    for index in 0..40 {
+        let case = board_case(5, index);
+        let plan = case.plan.unwrap_or_default();
+        frames::push(&mut answers, &board_text(&plan, &case.events));
+    }
+    assert_eq!(printed(&["board-answers", &file], b""), answers);
+
+    for index in 0..60 {
+        let case = board_case(5, index);
+        let number = index.to_string();
+        let at = dir.to_string_lossy().into_owned();
+        printed(&["case", "5", &number, &at], b"");
+        assert_eq!(std::fs::read(dir.join("plan.tsv")).ok(), case.plan);
+        assert_eq!(
+            std::fs::read(dir.join("events.tsv")).ok(),
+            Some(case.events.clone())
+        );
+        assert_eq!(printed(&["events", "5", &number], b""), case.events);
+        let plan = printed(&["plan-for-events", "5", &number], b"");
+        assert_eq!(plan, case.plan.unwrap_or_default());
+    }
+}
+
+#[test]
+fn wrong_arguments() {
+    for args in [
+        &[][..],
+        &["what"],
+        &["verdict", "1"],
+        &["board"],
+        &["plan", "1"],
+        &["plan", "x", "1"],
+        &["plan", "1", "1", "no-such-kind"],
+        &["corpus", "1", "1"],
+        &["answers", "/no/such/file"],
+    ] {
+        let out = oracle(args, b"");
+        assert_eq!(out.status.code(), Some(2), "{:?}", args);
+        assert!(out.stdout.is_empty());
+        assert!(!out.stderr.is_empty());
+    }
+    assert!(printed(&["plan"], b"").starts_with(b"minimal\t"));
+}
+
+#[test]
+fn a_closed_output_is_no_fault() {
+    let mut child = Command::new(env!("CARGO_BIN_EXE_oracle"))
+        .args(["plan", "1", "1", "oversize"])
+        .stdin(Stdio::null())
+        .stdout(Stdio::piped())
+        .stderr(Stdio::piped())
+        .spawn()
+        .expect("the program starts");
+    drop(child.stdout.take());
+    let out = child.wait_with_output().expect("the program ends");
+    assert_eq!(out.status.code(), Some(0));
+    assert!(out.stderr.is_empty());
+}

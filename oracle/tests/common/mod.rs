@@ -1,0 +1,34 @@
+#![allow(dead_code)]
+
+use oracle::plan::Plan;
+use oracle::reading::read;
+
+/// Blanks stand for tabs and `/` for LF.
+pub fn text(spaced: &str) -> Vec<u8> {
+    spaced
+        .bytes()
+        .map(|b| match b {
+            b' ' => b'\t',
+            b'/' => b'\n',
+            other => other,
+        })
+        .collect()
+}
+
+pub fn plan(spaced: &str) -> Plan {
+    read(&text(spaced)).expect("an accepted plan")
+}
+
+/// Output with tabs as blanks.
+pub fn spaced(bytes: &[u8]) -> String {
+    String::from_utf8_lossy(bytes).replace('\t', " ")
+}
+
+/// The worked plan with its policy line.
+pub fn worked(policy: &str) -> String {
+    format!(
+        "plan 1/policy {}/vcpu 1 1 0 3 20/vcpu 2 2 0 2 10/mutex 1 G/open 1 1/open 1 2/\
+         guest 1/task 1 1 100/run 2/lock 1 1/run 2/guest 2/task 2 1 50/run 1/lock 1 2/run 1/end/",
+        policy
+    )
+}

@@ -1,0 +1,318 @@
+//! The generated cases: what they hold, and that nothing panics over them.
+
+mod common;
+
+use std::collections::BTreeMap;
+
+use oracle::events::board_text;
+use oracle::frames;
+use oracle::generate::{
+    board_case, kind_of, plan_case, plan_case_of, valid_plan, Chance, KINDS, VALID,
+};
+use oracle::limits::INPUT_BYTES;
+use oracle::plan::{Overrun, Policy};
+use oracle::reading::read;
+use oracle::verdict::verdict_text;
+
+#[test]
+fn valid_kinds_are_accepted_and_written_back() {
+    for kind in VALID.iter() {
+        for index in 0..80 {
+            let bytes = plan_case_of(1, index, kind).unwrap();
+            let plan =
+                read(&bytes).unwrap_or_else(|refusal| panic!("{} {}: {:?}", kind, index, refusal));
+            assert_eq!(plan.text(), bytes);
+            assert_eq!(valid_plan(1, index, kind), Some(plan));
+            assert!(bytes.len() <= INPUT_BYTES);
+        }
+    }
+    assert_eq!(plan_case_of(1, 1, "no such kind"), None);
+}
+
+#[test]
+fn accepted_cases_of_any_kind_are_written_back() {
+    let mut accepted = 0;
+    for index in 0..4000 {
+        let bytes = plan_case(9, index);
+        if let Ok(plan) = read(&bytes) {
+            assert_eq!(plan.text(), bytes);
+            accepted += 1;
+        }
+    }
+    assert!(accepted > 1200 && accepted < 3000, "{}", accepted);
+}
+
+#[test]
+fn valid_plans_hold_what_they_should() {
+    let mut policies = BTreeMap::new();
+    let (mut mingled, mut bare, mut zero, mut unlocked, mut full) = (0, 0, 0, 0, 0);
+    for kind in VALID.iter() {
+        for index in 0..60 {
+            let p = valid_plan(4, index, kind).unwrap();
+            let policy = (p.policy == Policy::Periodic, p.overrun == Overrun::With);
+            *policies.entry(policy).or_insert(0) += 1;
+            let order: Vec<(u64, u64)> = p.tasks().map(|t| (t.v, t.n)).collect();
+            let mut rising = order.clone();
+            rising.sort_unstable();
+            mingled += u64::from(order != rising);
+            bare += u64::from(p.vcpus.iter().any(|c| p.tasks_of(c.v).count() == 0));
+            zero += u64::from(p.tasks().any(|t| t.lengths() == 0));
+            unlocked += u64::from(
+                p.mutexes
+                    .iter()
+                    .any(|x| !p.is_global(x.m) && p.ceiling(x.m) == 0),
+            );
+            full += u64::from(
+                p.tasks().count() == 64 && p.tasks().filter(|t| t.locks.len() == 8).count() > 20,
+            );
+        }
+    }
+    assert!(policies.len() == 4 && policies.values().all(|n| *n > 50));
+    for seen in [mingled, bare, zero, unlocked, full] {
+        assert!(seen > 20, "{:?}", [mingled, bare, zero, unlocked, full]);
+    }
+}
+
+#[test]
+fn verdicts_near_the_edge_are_mixed() {
+    let (mut fits, mut late) = (0, 0);
+    for index in 0..200 {
+        let out = verdict_text(&plan_case_of(6, index, "edge").unwrap());
+        for line in common::spaced(&out).lines() {
+            if line.starts_with("task ") || line.starts_with("vcpu ") {
+                fits += u64::from(line.contains(" fits "));
+                late += u64::from(!line.contains(" fits "));
+            }
+        }
+    }
+    assert!(fits < 2 * late && late < 2 * fits, "{} {}", fits, late);
+}
+
+/// The record in which a refusal stands, `due` where no line is there.
+fn record(bytes: &[u8], line: u64) -> String {
+    let lines: Vec<&[u8]> = bytes.split(|b| *b == b'\n').collect();
+    let at = lines.get(line as usize - 1).copied().unwrap_or(b"");
+    if line as usize >= 2 && lines.get(line as usize - 2) == Some(&&b"end"[..]) {
+        return "after".to_string();
+    }
+    if at.is_empty() && line as usize == lines.len() {
+        return "due".to_string();
+    }
+    let fields: Vec<&[u8]> = at.split(|b| *b == b'\t').collect();
+    let word = String::from_utf8_lossy(fields[0]).into_owned();
+    if word == "mutex" {
+        format!(
+            "mutex {}",
+            String::from_utf8_lossy(fields.get(2).unwrap_or(&&b""[..]))
+        )
+    } else {
+        word
+    }
+}
+
+#[test]
+fn every_refusal_at_every_kind_of_line() {
+    let mut seen: BTreeMap<(u32, String), u64> = BTreeMap::new();
+    for index in 0..9000 {
+        let bytes = plan_case(31, index);
+        if let Err(refusal) = read(&bytes) {
+            let key = (refusal.number, record(&bytes, refusal.line));
+            *seen.entry(key).or_insert(0) += 1;
+        }
+    }
+    let expected: [(u32, &[&str]); 7] = [
+        (
+            1,
+            &[
+                "plan", "policy", "vcpu", "mutex G", "mutex L", "open", "guest", "task", "run",
+                "lock", "end", "due", "after", "",
+            ],
+        ),
+        (
+            2,
+            &[
+                "vcpu", "mutex G", "mutex L", "open", "guest", "task", "run", "lock",
+            ],
+        ),
+        (
+            3,
+            &[
+                "vcpu", "mutex G", "mutex L", "open", "guest", "task", "run", "lock",
+            ],
+        ),
+        (4, &["vcpu", "mutex G", "mutex L", "open", "guest", "task"]),
+        (5, &["mutex L", "open", "guest", "task", "lock"]),
+        (6, &["task", "lock"]),
+        (7, &["task", "lock"]),
+    ];
+    for (number, words) in expected.iter() {
+        for word in words.iter() {
+            let count = seen.get(&(*number, word.to_string())).copied().unwrap_or(0);
+            assert!(count > 3, "{} at {:?}: {}", number, word, count);
+        }
+    }
+}
+
+#[test]
+fn outside_and_missing_in_each_way() {
+    let mut ways: BTreeMap<&str, u64> = BTreeMap::new();
+    for index in 0..400 {
+        for kind in ["refuse5", "refuse6"] {
+            let bytes = plan_case_of(17, index, kind).unwrap();
+            let refusal = match read(&bytes) {
+                Err(refusal) => refusal,
+                Ok(_) => continue,
+            };
+            let lines: Vec<&[u8]> = bytes.split(|b| *b == b'\n').collect();
+            let at = common::spaced(lines[refusal.line as usize - 1]);
+            let fields: Vec<&str> = at.split(' ').collect();
+            let local = lines
+                .iter()
+                .any(|l| common::spaced(l).starts_with(&format!("mutex {} L", fields[1])));
+            let way = match (refusal.number, fields[0], local) {
+                (5, "open", true) => "open of a local mutex",
+                (5, "open", false) => "open of another or to a guest without VCPU",
+                (6, "task", _) => "another guest's VCPU",
+                (6, "lock", true) => "another VCPU's local mutex",
+                (6, "lock", false) => "a mutex not opened",
+                _ => "other",
+            };
+            *ways.entry(way).or_insert(0) += 1;
+        }
+    }
+    assert!(
+        ways.len() == 6 && ways.values().all(|n| *n > 15),
+        "{:?}",
+        ways
+    );
+}
+
+#[test]
+fn aimed_kinds_hit() {
+    for number in 1..=7u32 {
+        let kind = format!("refuse{}", number);
+        let hits = (0..60).filter(|index| {
+            let bytes = plan_case_of(2, *index, &kind).unwrap();
+            read(&bytes).err().map(|r| r.number) == Some(number)
+        });
+        let hits = hits.count();
+        assert!(hits > 50, "{} {}", kind, hits);
+    }
+}
+
+#[test]
+fn nothing_panics_over_damaged_inputs() {
+    let mut chance = Chance::new(13, 0, 9);
+    for index in 0..6000 {
+        let mut bytes = plan_case(13, index);
+        assert!(!verdict_text(&bytes).is_empty());
+        // And damaged once more, anywhere.
+        let at = chance.place(bytes.len());
+        if let Some(byte) = bytes.get_mut(at) {
+            *byte = chance.below(256) as u8;
+        }
+        assert!(!verdict_text(&bytes).is_empty());
+        bytes.truncate(chance.place(bytes.len() + 1));
+        assert!(!verdict_text(&bytes).is_empty());
+    }
+}
+
+#[test]
+fn nothing_panics_over_events() {
+    let mut chance = Chance::new(14, 0, 9);
+    for index in 0..1500 {
+        let case = board_case(14, index);
+        let plan = case.plan.unwrap_or_default();
+        let out = board_text(&plan, &case.events);
+        if read(&plan).is_ok() && case.events.len() <= INPUT_BYTES {
+            let lines = case.events.split(|b| *b == b'\n').count()
+                - usize::from(case.events.is_empty() || case.events.ends_with(b"\n"));
+            assert_eq!(out.iter().filter(|b| **b == b'\n').count(), lines);
+        } else {
+            assert!(out.starts_with(b"refused\t"));
+            assert_eq!(out.iter().filter(|b| **b == b'\n').count(), 1);
+        }
+        let mut events = case.events;
+        for _ in 0..5 {
+            let at = chance.place(events.len());
+            if let Some(byte) = events.get_mut(at) {
+                *byte = chance.below(256) as u8;
+            }
+        }
+        board_text(&plan, &events);
+    }
+}
+
+#[test]
+fn sizes_above_the_limit_are_rare_but_there() {
+    let long = (0..3000).filter(|i| plan_case(3, *i).len() > INPUT_BYTES);
+    let long = long.count();
+    assert!(long > 0 && long < 60, "{}", long);
+    let cases: Vec<_> = (0..2000).map(|i| board_case(1, i)).collect();
+    let events = cases
+        .iter()
+        .filter(|c| c.events.len() > INPUT_BYTES)
+        .count();
+    let absent = cases.iter().filter(|c| c.plan.is_none()).count();
+    let bad = cases
+        .iter()
+        .filter(|c| c.plan.as_deref().map_or(false, |p| read(p).is_err()))
+        .count();
+    let torn = cases
+        .iter()
+        .filter(|c| !c.events.is_empty() && !c.events.ends_with(b"\n"))
+        .count();
+    let none = cases.iter().filter(|c| c.events.is_empty()).count();
+    for seen in [events, absent, bad, torn, none] {
+        assert!(
+            seen > 0 && seen < 500,
+            "{:?}",
+            [events, absent, bad, torn, none]
+        );
+    }
+}
+
+#[test]
+fn frames_hold_any_bytes() {
+    let cases: [&[u8]; 4] = [b"", b"\n1\n", b"plan\t1\n", b"\0\xff"];
+    let mut out = Vec::new();
+    for case in cases {
+        frames::push(&mut out, case);
+    }
+    assert_eq!(frames::split(&out), Some(cases.to_vec()));
+    assert_eq!(frames::split(b""), Some(Vec::new()));
+    for bad in [
+        &b"5\nabc"[..],
+        b"x\n",
+        b"3",
+        b"-1\n",
+        b"99999999999999999999\n",
+    ] {
+        assert_eq!(frames::split(bad), None);
+    }
+}
+
+/// FNV-1a over everything given.
+fn mark(parts: impl Iterator<Item = Vec<u8>>) -> u64 {
+    parts.flatten().fold(0xcbf2_9ce4_8422_2325, |h, b| {
+        (h ^ u64::from(b)).wrapping_mul(0x0000_0100_0000_01b3)
+    })
+}
+
+#[test]
+fn the_same_seed_gives_the_same_cases_for_ever() {
+    let every_kind = KINDS
+        .iter()
+        .flat_map(|(kind, _, _)| (0..5).map(move |index| plan_case_of(1, index, kind).unwrap()));
+    let plans = mark(every_kind.chain((0..300).map(|index| plan_case(7, index))));
+    let events = mark((0..200).map(|index| {
+        let case = board_case(7, index);
+        [case.plan.unwrap_or_default(), case.events].concat()
+    }));
+    assert_eq!(
+        (plans, events),
+        (5_770_797_171_161_140_698, 4_040_754_978_698_668_373)
+    );
+    assert_ne!(plan_case(7, 1), plan_case(8, 1));
+    assert!((0..400).map(|i| kind_of(7, i)).any(|kind| kind == "wrap"));
+}
