@@ -1,0 +1,1 @@
+// Theorems on the board's events: this crate has proofs only, in specs/.

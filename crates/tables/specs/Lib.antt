@@ -1,0 +1,7 @@
+pub mod Layout
+pub mod Given
+pub mod FlatLaws
+pub mod LayoutLaws
+pub mod RisingLaws
+pub mod GivenLaws
+pub mod Sound
