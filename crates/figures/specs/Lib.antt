@@ -2,3 +2,6 @@ pub mod System
 pub mod Figures
 pub mod Answers
 pub mod Demands
+pub mod Tabled
+pub mod Parts
+pub mod PartLaws

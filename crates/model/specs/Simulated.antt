@@ -1,14 +1,15 @@
 -- Two judges that agree wherever their states are related give one verdict and one reading: so code may keep another state than the rules.
 use Prim.Native.Nat.{ℕ, _+_}
-use mathlib.Core.Path.{_≡_, refl, ap}
+use mathlib.Core.Path.{_≡_, refl, ap, sym, _∙_}
 use mathlib.Core.List.{List, [], _∷_}
 use mathlib.Core.Option.{Option, some, none}
 use mathlib.Core.Bool.{cond}
+use mathlib.Core.Logic.{_↔_}
 use Rattle.laws.specs.Bytes.{pieces, isNil}
 use Rattle.model.specs.Limits.{lf}
 use Rattle.model.specs.Refusals.{Fault, Clear, Bad}
 use Rattle.model.specs.Line.{Item, itemOf}
-use Rattle.model.specs.Reading.{Judge, Verdict, fault, faultOf, nextOf, finish, onward, judge, itemsIn, planOf, answer, readingBy}
+use Rattle.model.specs.Reading.{Judge, Verdict, fault, faultOf, nextOf, finish, onward, judge, Passes, itemsIn, planOf, answer, readingBy}
 
 module _ (I J : Judge) (R : I .Seen → J .Seen → Type 0) where
   -- related states have the same faults and stops, and stay related after an item with no fault
@@ -38,3 +39,10 @@ module _ (I J : Judge) (R : I .Seen → J .Seen → Type 0) where
   pub same-reading : Alike → (s : I .Seen) (t : J .Seen) → R s t → (b : List ℕ) → readingBy I s b ≡ readingBy J t b
   unfolding readingBy
   same-reading a s t r b = ap (λ v. answer v (planOf (itemsIn (pieces lf b)))) (same-verdict a s t 1 (pieces lf b) r)
+
+  pub same-passes : Alike → (s : I .Seen) (t : J .Seen) → R s t → (is : List Item) → Passes I s is ↔ Passes J t is
+  same-passes a s t r [] = (λ h. sym (a .stops s t r) ∙ h, λ h. a .stops s t r ∙ h)
+  same-passes a s t r (i ∷ is) = (
+    λ h. let e : fault J t i ≡ Clear = sym (a .faults s t r i) ∙ h .0 in (e, same-passes a (I .next s i) (J .next t i) (a .stays s t r i e) is .0 (h .1)),
+    λ h. (a .faults s t r i ∙ h .0, same-passes a (I .next s i) (J .next t i) (a .stays s t r i (h .0)) is .1 (h .1)),
+  )

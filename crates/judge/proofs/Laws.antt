@@ -1,0 +1,78 @@
+-- What holds at a known kind.
+use Prim.Native.Nat.{ℕ}
+use mathlib.Core.Path.{_≡_, refl}
+use mathlib.Core.Bool.{Bool, _&&_, and-true}
+use Rattle.model.specs.declared.Kind.{Kind}
+use Rattle.model.specs.declared.Kind.the-variants.{PlanLine, PolicyPO, PolicyPN, PolicyDO, PolicyDN, VcpuLine, MutexG, MutexL, OpenLine, GuestLine, TaskLine, RunLine, LockLine, EndLine, AskLine, FreeLine, UseLine, TopLine, ShowLine}
+use Rattle.model.specs.Line.{Item, shape, written}
+use Rattle.model.specs.declared.Fault.{Fault}
+use Rattle.model.specs.declared.Fault.the-variants.{Clear}
+use Rattle.model.specs.Limits.{maxV, maxGuest, maxCore, maxPeriod, maxM, maxLength, maxLocks}
+use lib.Dec.{leb, ltb}
+use lib.ListN.{getD}
+use Rattle.model.specs.declared.Refusal.the-variants.{Shape, Number, Range, Order, Missing, Outside, TooMany}
+use Rattle.model.specs.Refusals.{unless}
+use Rattle.model.specs.Rules.{phase, within, follows, vcpuFits}
+use Rattle.model.specs.Reading.{fault}
+use Rattle.judge.specs.Coded.{Seen, size, numsOf, fits, ranged, reached, vcpuFault, lockFault, ruled, seenBy, coded}
+
+pub told : {A : Type 0} (f : Kind → A) {k q : Kind} {r : A} → k ≡ q → r ≡ f q → r ≡ f k
+told f e h = rw e h
+
+-- the same of what is wrong with a line
+pub rule-told :
+    (t : Seen) (a b c d e : ℕ) {k q : Kind} {r : Fault} → k ≡ q → r ≡ ruled t q (numsOf q a b c d e) → r ≡ ruled t k (numsOf k a b c d e)
+rule-told t a b c d e g h = told (λ x. ruled t x (numsOf x a b c d e)) g h
+
+-- the same of what is seen after a line
+pub seen-told :
+    (t : Seen) (a b c d e : ℕ) {p : ℕ} {k q : Kind} {r : Seen} → p ≡ phase k → k ≡ q → r ≡ seenBy p t q (numsOf q a b c d e) →
+    r ≡ seenBy (phase k) t k (numsOf k a b c d e)
+seen-told t a b c d e {k = k} f g h = told (λ x. seenBy (phase k) t x (numsOf x a b c d e)) g (rw f at h)
+
+-- the fault of an item, from its parts
+pub fault-told :
+    (t : Seen) (i : Item) {a b : Bool} {f g r : Fault} →
+    f ≡ ruled t (i .kind) (i .nums) → b ≡ written (shape (i .kind)) (i .nums) → a ≡ follows (t .phase) (i .kind) →
+    g ≡ unless b Number f → r ≡ unless a Shape g → r ≡ fault coded t i
+unfolding fault
+fault-told t i e h l m n = cc
+
+-- the fault of a VCPU, from its parts
+pub vcpu-told :
+    (t : Seen) (v g c b p : ℕ) {x₁ x₂ x₃ x₄ x₅ : Bool} {f r : Fault} →
+    x₁ ≡ within v 1 maxV → x₂ ≡ within g 1 maxGuest → x₃ ≡ within c 0 maxCore → x₄ ≡ within p 1 maxPeriod → x₅ ≡ within b 1 p →
+    f ≡ unless (ltb (t .vcpu) v) Order Clear → r ≡ unless (x₁ && (x₂ && (x₃ && (x₄ && x₅)))) Range f → r ≡ vcpuFault t v g c b p
+unfolding vcpuFault vcpuFits
+vcpu-told t v g c b p e₁ e₂ e₃ e₄ e₅ h k = rw (k, h, e₁, e₂, e₃, e₄, e₅)
+
+-- the fault of a lock, from its parts
+pub lock-told :
+    (t : Seen) (m x : ℕ) {o : ℕ} {b w : Bool} {f g h r : Fault} →
+    o ≡ getD (t .owners) m 0 → f ≡ unless (ltb (t .locks) maxLocks) TooMany Clear → b ≡ reached t o m → g ≡ unless b Outside f →
+    h ≡ unless (leb 1 o) Missing g → w ≡ ranged m maxM x maxLength → r ≡ unless w Range h → r ≡ lockFault t m x
+unfolding lockFault
+lock-told t m x a b c d e f g = rw (g, f, e, d, c, b, a)
+
+-- the numbers of a line are written as they should be
+pub fits-written : (k : Kind) (a b c d e : ℕ) → fits (size (shape k)) a b c d e ≡ written (shape k) (numsOf k a b c d e)
+unfolding shape written size numsOf
+fits-written PlanLine a b c d e = refl
+fits-written PolicyPO a b c d e = refl
+fits-written PolicyPN a b c d e = refl
+fits-written PolicyDO a b c d e = refl
+fits-written PolicyDN a b c d e = refl
+fits-written VcpuLine a b c d e = simp and-true
+fits-written MutexG a b c d e = refl
+fits-written MutexL a b c d e = refl
+fits-written OpenLine a b c d e = refl
+fits-written GuestLine a b c d e = refl
+fits-written TaskLine a b c d e = refl
+fits-written RunLine a b c d e = refl
+fits-written LockLine a b c d e = refl
+fits-written EndLine a b c d e = refl
+fits-written AskLine a b c d e = refl
+fits-written FreeLine a b c d e = refl
+fits-written UseLine a b c d e = refl
+fits-written TopLine a b c d e = refl
+fits-written ShowLine a b c d e = refl

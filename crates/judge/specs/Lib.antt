@@ -1,0 +1,5 @@
+pub mod Coded
+pub mod Same
+pub mod TableLaws
+pub mod SameLaws
+pub mod Agrees

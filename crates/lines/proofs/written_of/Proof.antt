@@ -1,0 +1,13 @@
+-- `lines::written_of` meets its contract.
+use borrow.Author.Needs.{needs}
+use Rattle.lines.specs.Code.{writtenBy}
+use Rattle.lines.specs.SaidLaws.{written-code}
+use Rattle.lines.proofs.written_of.Statement.{statement}
+use Rattle.lines.proofs.written_of.Tie as tie
+
+returns : tie.Need-returns
+unfolding writtenBy
+returns c = let a = c .before .args in cc (written-code (a .kind) (a .a) (a .b) (a .c) (a .d) (a .e))
+
+pub written-of-spec : {M : Type 1} → statement M
+written-of-spec = tie.close (tie.spec (λ c κs. search needs) returns)

@@ -1,0 +1,46 @@
+-- What a line says: its kind, and its numbers from left to right, 0 where there are fewer.
+use Prim.Native.Nat.{ℕ, suc}
+use mathlib.Core.List.{List, [], _∷_}
+use mathlib.Core.Option.{Option, some, none}
+use lib.ListN.{take}
+use Rattle.laws.specs.Bytes.{pieces}
+use Rattle.model.specs.Limits.{tab}
+use Rattle.model.specs.declared.Kind.{Kind}
+use Rattle.model.specs.declared.Found.{Found}
+use Rattle.model.specs.declared.Found.the-variants.{Is, Nothing}
+use Rattle.model.specs.Line.{Form, Word, Num, Item, shape, kinds, numbers, kindIn}
+use Rattle.model.specs.Rules.{nth}
+pub use Rattle.lines.specs.declared.Said.{Said}
+
+-- how many numbers a shape has
+unfoldable pub size : List Form → ℕ
+size [] = 0
+size (Word w ∷ ps) = size ps
+size (Num ∷ ps) = suc (size ps)
+
+-- the numbers of a line of this kind: as many of five as its shape has
+unfoldable pub numsOf : Kind → ℕ → ℕ → ℕ → ℕ → ℕ → List ℕ
+numsOf k a b c d e = take (size (shape k)) (a ∷ b ∷ c ∷ d ∷ e ∷ [])
+
+abbrev pub numbersIn : List (List ℕ) → Found → List ℕ
+numbersIn fs Nothing = []
+numbersIn fs (Is k) = numbers (shape k) fs
+
+abbrev pub saidAs : Found → List ℕ → Said
+saidAs f ns = record { found = f; a = nth 0 ns; b = nth 1 ns; c = nth 2 ns; d = nth 3 ns; e = nth 4 ns }
+
+unfoldable pub saidOf : List ℕ → Said
+saidOf l = saidAs (kindIn kinds (pieces tab l)) (numbersIn (pieces tab l) (kindIn kinds (pieces tab l)))
+
+abbrev pub itemAs : Found → ℕ → ℕ → ℕ → ℕ → ℕ → Option Item
+itemAs Nothing a b c d e = none
+itemAs (Is k) a b c d e = some (record { kind = k; nums = numsOf k a b c d e })
+
+-- the item that is said
+abbrev pub saidItem : Said → Option Item
+saidItem s = itemAs (s .found) (s .a) (s .b) (s .c) (s .d) (s .e)
+
+-- what an item says
+abbrev pub itemSaid : Option Item → Said
+itemSaid none = saidAs Nothing []
+itemSaid (some i) = saidAs (Is (i .kind)) (i .nums)

@@ -1,0 +1,193 @@
+-- What is said is the line's item; and what code reads, field by field, is what is said.
+use Prim.Native.Nat.{ℕ, zero, suc, pred, _≤_}
+use mathlib.Core.Path.{_≡_, refl, ap, _∙_}
+use mathlib.Core.List.{List, [], _∷_}
+use mathlib.Core.Option.{some, none}
+use mathlib.Core.Bool.{Bool, true, false, cond, and-true}
+use native.Mathlib.Omega.{arith}
+use lib.ListN.{length}
+use Rattle.laws.specs.BoolLaws.{both-right}
+use Rattle.laws.specs.Bytes.{pieces, same}
+use Rattle.laws.specs.Choice.{when}
+use Rattle.laws.specs.Decimal.{value}
+use Rattle.laws.specs.DecimalLaws.{value-small}
+use Rattle.laws.specs.Fields.{before, after, count, field, fieldsTo}
+use Rattle.laws.specs.Steps.{pieces-fields, pieces-length}
+use Rattle.model.specs.Limits.{maxDigits, tab}
+use Rattle.model.specs.declared.Kind.{Kind}
+use Rattle.model.specs.declared.Kind.the-variants.{PlanLine, PolicyPO, PolicyPN, PolicyDO, PolicyDN, VcpuLine, MutexG, MutexL, OpenLine, GuestLine, TaskLine, RunLine, LockLine, EndLine, AskLine, FreeLine, UseLine, TopLine, ShowLine}
+use Rattle.model.specs.declared.Found.{Found}
+use Rattle.model.specs.declared.Found.the-variants.{Is, Nothing}
+use Rattle.model.specs.Line.{Form, Word, Num, Item, bad, shape, kinds, hasShape, numbers, kindIn, itemFrom, itemOf, written}
+use Rattle.model.specs.Rules.{nth}
+use Rattle.lines.specs.Said.{Said, size, numsOf, numbersIn, saidAs, saidOf, itemAs, saidItem, itemSaid}
+use Rattle.lines.specs.Code.{sizeIn, pickOf, saidBy, writtenBy}
+
+-- a kind that was found has its shape
+pub kind-has : (ks : List Kind) (fs : List (List ℕ)) (k : Kind) → kindIn ks fs ≡ Is k → hasShape (shape k) fs ≡ true
+unfolding kindIn
+kind-has [] fs k h = absurd (let z : _≡_ {A = ℕ} 0 1 = cc in omega arith)
+kind-has (j ∷ ks) fs k h = go (hasShape (shape j) fs) refl h (kind-has ks fs k)
+  where
+    go :
+        (t : Bool) → hasShape (shape j) fs ≡ t → cond t (Is j) (kindIn ks fs) ≡ Is k → (kindIn ks fs ≡ Is k → hasShape (shape k) fs ≡ true) →
+        hasShape (shape k) fs ≡ true
+    go true e h ih = let q : j ≡ k = cc in rw q at e
+    go false e h ih = ih h
+
+pub has-length : (ps : List Form) (fs : List (List ℕ)) → hasShape ps fs ≡ true → length ps ≡ length fs
+unfolding hasShape
+has-length [] [] h = refl
+has-length [] (f ∷ fs) h = absurd (let z : _≡_ {A = ℕ} 0 1 = cc in omega arith)
+has-length (p ∷ ps) [] h = absurd (let z : _≡_ {A = ℕ} 0 1 = cc in omega arith)
+has-length (Word w ∷ ps) (f ∷ fs) h = ap suc (has-length ps fs (both-right (same f w) (hasShape ps fs) h))
+has-length (Num ∷ ps) (f ∷ fs) h = ap suc (has-length ps fs h)
+
+-- the numbers of a shape, field by field
+unfoldable numbersBy : List Form → List ℕ → List ℕ
+numbersBy [] s = []
+numbersBy (Word w ∷ ps) s = numbersBy ps (after tab s)
+numbersBy (Num ∷ ps) s = value maxDigits (before tab s) ∷ numbersBy ps (after tab s)
+
+numbers-fields : (ps : List Form) (n : ℕ) (s : List ℕ) → length ps ≡ suc n → numbers ps (fieldsTo tab n s) ≡ numbersBy ps s
+unfolding numbers numbersBy fieldsTo
+numbers-fields [] n s h = absurd (omega arith)
+numbers-fields (Word w ∷ []) zero s h = refl
+numbers-fields (Num ∷ []) zero s h = refl
+numbers-fields (p ∷ q ∷ ps) zero s h = absurd (omega arith)
+numbers-fields (Word w ∷ ps) (suc n) s h = numbers-fields ps n (after tab s) (omega arith)
+numbers-fields (Num ∷ ps) (suc n) s h = ap (λ r. value maxDigits (before tab s) ∷ r) (numbers-fields ps n (after tab s) (omega arith))
+
+abbrev asNums : Kind → List ℕ → List ℕ
+asNums k ns = numsOf k (nth 0 ns) (nth 1 ns) (nth 2 ns) (nth 3 ns) (nth 4 ns)
+
+-- FOR EACH KIND: what code reads of its fields; its numbers are as many of five; how code tests that they are written
+abbrev Read : Kind → Type 0
+Read k =
+    ((l : List ℕ) →
+    (saidAs (Is k) (numbersBy (shape k) l)
+    ≡ saidBy (pred (length (shape k))) (size (shape k)) (Is k) (field tab 1 l) (field tab 2 l) (field tab 3 l) (field tab 4 l) (field tab 5 l))
+    × (numbersBy (shape k) l ≡ asNums k (numbersBy (shape k) l)))
+    × ((a b c d e : ℕ) → written (shape k) (numsOf k a b c d e) ≡ writtenBy (size (shape k)) a b c d e)
+
+read-kind : (k : Kind) → Read k
+unfolding shape size numsOf numbersBy saidBy pickOf when field written writtenBy
+read-kind k =
+    elim k [
+      | PlanLine ↦ (λ l. (refl, refl), λ a b c d e. refl)
+      | PolicyPO ↦ (λ l. (refl, refl), λ a b c d e. refl)
+      | PolicyPN ↦ (λ l. (refl, refl), λ a b c d e. refl)
+      | PolicyDO ↦ (λ l. (refl, refl), λ a b c d e. refl)
+      | PolicyDN ↦ (λ l. (refl, refl), λ a b c d e. refl)
+      | VcpuLine ↦ (λ l. (refl, refl), λ a b c d e. simp and-true)
+      | MutexG ↦ (λ l. (refl, refl), λ a b c d e. refl)
+      | MutexL ↦ (λ l. (refl, refl), λ a b c d e. refl)
+      | OpenLine ↦ (λ l. (refl, refl), λ a b c d e. refl)
+      | GuestLine ↦ (λ l. (refl, refl), λ a b c d e. refl)
+      | TaskLine ↦ (λ l. (refl, refl), λ a b c d e. refl)
+      | RunLine ↦ (λ l. (refl, refl), λ a b c d e. refl)
+      | LockLine ↦ (λ l. (refl, refl), λ a b c d e. refl)
+      | EndLine ↦ (λ l. (refl, refl), λ a b c d e. refl)
+      | AskLine ↦ (λ l. (refl, refl), λ a b c d e. refl)
+      | FreeLine ↦ (λ l. (refl, refl), λ a b c d e. refl)
+      | UseLine ↦ (λ l. (refl, refl), λ a b c d e. refl)
+      | TopLine ↦ (λ l. (refl, refl), λ a b c d e. refl)
+      | ShowLine ↦ (λ l. (refl, refl), λ a b c d e. refl)
+    ]
+
+pub written-code : (k : Kind) (a b c d e : ℕ) → written (shape k) (numsOf k a b c d e) ≡ writtenBy (size (shape k)) a b c d e
+written-code k = read-kind k .1
+
+-- a line of a kind: its tabs, and its numbers
+module _ (l : List ℕ) (k : Kind) (h : kindIn kinds (pieces tab l) ≡ Is k) where
+  forms : length (shape k) ≡ suc (count tab l)
+  forms = has-length (shape k) (pieces tab l) (kind-has kinds (pieces tab l) k h) ∙ pieces-length tab l
+
+  line-numbers : numbers (shape k) (pieces tab l) ≡ numbersBy (shape k) l
+  line-numbers = ap (numbers (shape k)) (pieces-fields tab l) ∙ numbers-fields (shape k) (count tab l) l forms
+
+  -- the numbers of a line are as many of five as its kind has
+  pub numbers-nums : numbers (shape k) (pieces tab l) ≡ asNums k (numbers (shape k) (pieces tab l))
+  numbers-nums = rw line-numbers (read-kind k .0 l .1)
+
+  said-kind :
+      saidAs (Is k) (numbers (shape k) (pieces tab l))
+      ≡ saidBy (count tab l) (size (shape k)) (Is k) (field tab 1 l) (field tab 2 l) (field tab 3 l) (field tab 4 l) (field tab 5 l)
+  said-kind =
+      let n : count tab l ≡ pred (length (shape k)) = omega (arith, forms) in
+      rw (line-numbers, n) (read-kind k .0 l .0)
+
+said-nothing : (c : ℕ) (x y z p q : List ℕ) → saidAs Nothing [] ≡ saidBy c 0 Nothing x y z p q
+unfolding saidBy when
+said-nothing c x y z p q = refl
+
+-- WHAT CODE READS is what is said
+pub said-code :
+    (l : List ℕ) →
+    saidOf l
+    ≡ saidBy (count tab l) (sizeIn (kindIn kinds (pieces tab l))) (kindIn kinds (pieces tab l)) (field tab 1 l) (field tab 2 l) (field tab 3 l) (field tab 4 l) (field tab 5 l)
+unfolding saidOf
+said-code l = go (kindIn kinds (pieces tab l)) refl
+  where
+    go :
+        (f : Found) → kindIn kinds (pieces tab l) ≡ f →
+        saidAs f (numbersIn (pieces tab l) f) ≡ saidBy (count tab l) (sizeIn f) f (field tab 1 l) (field tab 2 l) (field tab 3 l) (field tab 4 l) (field tab 5 l)
+    go Nothing e = said-nothing (count tab l) (field tab 1 l) (field tab 2 l) (field tab 3 l) (field tab 4 l) (field tab 5 l)
+    go (Is k) e = said-kind l k e
+
+-- WHAT IS SAID is the item, and the item is what is said
+pub said-item : (l : List ℕ) → itemOf l ≡ saidItem (saidOf l)
+unfolding saidOf itemOf
+said-item l = go (kindIn kinds (pieces tab l)) refl
+  where
+    go :
+        (f : Found) → kindIn kinds (pieces tab l) ≡ f → itemFrom (pieces tab l) f ≡ saidItem (saidAs f (numbersIn (pieces tab l) f))
+    go Nothing e = refl
+    go (Is k) e = ap (λ ns. some (record { kind = k; nums = ns })) (numbers-nums l k e)
+
+pub item-said : (l : List ℕ) → saidOf l ≡ itemSaid (itemOf l)
+unfolding saidOf itemOf
+item-said l = go (kindIn kinds (pieces tab l))
+  where
+    go : (f : Found) → saidAs f (numbersIn (pieces tab l) f) ≡ itemSaid (itemFrom (pieces tab l) f)
+    go Nothing = refl
+    go (Is k) = refl
+
+module _ (l : List ℕ) (k : Kind) (h : saidOf l .found ≡ Is k) where
+  -- the numbers of a line that has a kind
+  pub said-nums : numbers (shape k) (pieces tab l) ≡ numsOf k (saidOf l .a) (saidOf l .b) (saidOf l .c) (saidOf l .d) (saidOf l .e)
+  unfolding saidOf
+  said-nums = rw h (numbers-nums l k h)
+
+  pub said-is : itemOf l ≡ some (record { kind = k; nums = numsOf k (saidOf l .a) (saidOf l .b) (saidOf l .c) (saidOf l .d) (saidOf l .e) })
+  said-is = said-item l ∙ ap (λ f. itemAs f (saidOf l .a) (saidOf l .b) (saidOf l .c) (saidOf l .d) (saidOf l .e)) h
+
+pub said-none : (l : List ℕ) → saidOf l .found ≡ Nothing → itemOf l ≡ none
+said-none l h = said-item l ∙ ap (λ f. itemAs f (saidOf l .a) (saidOf l .b) (saidOf l .c) (saidOf l .d) (saidOf l .e)) h
+
+pub item-is : (l : List ℕ) (i : Item) → itemOf l ≡ some i → saidOf l ≡ saidAs (Is (i .kind)) (i .nums)
+item-is l i h = item-said l ∙ ap itemSaid h
+
+pub item-none : (l : List ℕ) → itemOf l ≡ none → saidOf l ≡ saidAs Nothing []
+item-none l h = item-said l ∙ ap itemSaid h
+
+-- a number that is said is at most the one for a field that is not written as it should be
+pub record SaidSmall (s : Said) : Type 0 where
+  pub a : s .a ≤ bad
+  pub b : s .b ≤ bad
+  pub c : s .c ≤ bad
+  pub d : s .d ≤ bad
+  pub e : s .e ≤ bad
+
+when-small : (t : Bool) (s : List ℕ) → when t (value maxDigits s) ≤ bad
+unfolding when
+when-small true s = value-small maxDigits s
+when-small false s = omega arith
+
+by-small : (c n : ℕ) (f : Found) (x y z p q : List ℕ) → SaidSmall (saidBy c n f x y z p q)
+unfolding saidBy
+by-small c n f x y z p q =
+    record { a = when-small _ x; b = when-small _ _; c = when-small _ z; d = when-small _ p; e = when-small _ q }
+
+pub said-small : (l : List ℕ) → SaidSmall (saidOf l)
+said-small l = rw (said-code l) (by-small _ _ _ _ _ _ _ _)

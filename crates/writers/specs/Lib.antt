@@ -1,0 +1,5 @@
+pub mod Wrote
+pub mod WroteLaws
+pub mod Lines
+pub mod LineLaws
+pub mod SizeLaws
