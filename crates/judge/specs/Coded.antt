@@ -3,7 +3,7 @@ use Prim.Native.Nat.{ℕ, suc, _+_, _*_, _-_}
 use mathlib.Core.List.{List, [], _∷_}
 use mathlib.Core.Bool.{Bool, true, cond, _&&_, _||_}
 use lib.Dec.{eqb, leb, ltb}
-use lib.ListN.{getD, set, replicate, take}
+use lib.ListN.{getD, set, replicate}
 use Rattle.model.specs.Limits.{maxV, maxGuest, maxM, maxN, maxPeriod, maxLength, maxTasks, maxLocks}
 use Rattle.model.specs.declared.Fault.{Fault}
 use Rattle.model.specs.declared.Fault.the-variants.{Clear}
@@ -11,20 +11,10 @@ use Rattle.model.specs.declared.Refusal.the-variants.{Range, Order, Missing, Ou
 use Rattle.model.specs.Refusals.{unless}
 use Rattle.model.specs.declared.Kind.{Kind}
 use Rattle.model.specs.declared.Kind.the-variants.{PlanLine, PolicyPO, PolicyPN, PolicyDO, PolicyDN, VcpuLine, MutexG, MutexL, OpenLine, GuestLine, TaskLine, RunLine, LockLine, EndLine, AskLine, FreeLine, UseLine, TopLine, ShowLine}
-use Rattle.model.specs.Line.{Item, Form, Word, Num, shape, bad}
+use Rattle.model.specs.Line.{Item, bad, numsOf}
 use Rattle.model.specs.Rules.{phase, within, follows, nth, rises, vcpuFits}
 use Rattle.model.specs.Reading.{Judge}
 pub use Rattle.judge.specs.declared.Seen.{Seen}
-
--- how many numbers a shape has
-unfoldable pub size : List Form → ℕ
-size [] = 0
-size (Word w ∷ ps) = size ps
-size (Num ∷ ps) = suc (size ps)
-
--- as many of the numbers as a line of this kind has
-unfoldable pub numsOf : Kind → ℕ → ℕ → ℕ → ℕ → ℕ → List ℕ
-numsOf k a b c d e = take (size (shape k)) (a ∷ b ∷ c ∷ d ∷ e ∷ [])
 
 -- are the first n of the numbers written as they should be?
 abbrev pub fits : ℕ → ℕ → ℕ → ℕ → ℕ → ℕ → Bool

@@ -12,7 +12,8 @@ ghost use Rattle.model.specs.Line.{shape};
 ghost use Rattle.model.specs.Line as line;
 ghost use Rattle.model.specs.Reading.{fault};
 ghost use Rattle.judge.specs.Coded as coded;
-ghost use Rattle.judge.specs.Coded.{item, numsOf};
+ghost use Rattle.judge.specs.Coded.{item};
+ghost use Rattle.model.specs.Line.{numsOf};
 
 // The limits of document 01 (specs/Limits of the model): v 1 to 16.
 const MAX_V: u64 = 16;
@@ -199,7 +200,7 @@ fn follows(q: u64, kind: Kind) -> bool
 
 // How many numbers a line of this kind has.
 fn size_of(kind: Kind) -> u64
-    ensures { λ r. ⌜ r ≡ coded.size (shape kind) ⌝ }
+    ensures { λ r. ⌜ r ≡ line.size (shape kind) ⌝ }
 {
     match kind {
         Kind::PlanLine => 0,

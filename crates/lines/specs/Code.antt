@@ -13,7 +13,8 @@ use Rattle.model.specs.declared.Kind.the-variants.{PlanLine, PolicyPO, PolicyPN
 use Rattle.model.specs.declared.Found.{Found}
 use Rattle.model.specs.declared.Found.the-variants.{Is, Nothing}
 use Rattle.model.specs.Line.{bad, shape, wPlan, wOne, wPolicy, wP, wD, wO, wN, wVcpu, wMutex, wG, wL, wOpen, wGuest, wTask, wRun, wLock, wEnd, wAsk, wFree, wUse, wTop, wShow}
-use Rattle.lines.specs.Said.{Said, size}
+use Rattle.lines.specs.Said.{Said}
+use Rattle.model.specs.Line.{size}
 
 -- the bytes after a value v, to the base 256
 unfoldable pub spell : ℕ → List ℕ → ℕ

@@ -1,26 +1,15 @@
 -- What a line says: its kind, and its numbers from left to right, 0 where there are fewer.
-use Prim.Native.Nat.{ℕ, suc}
+use Prim.Native.Nat.{ℕ}
 use mathlib.Core.List.{List, [], _∷_}
 use mathlib.Core.Option.{Option, some, none}
-use lib.ListN.{take}
 use Rattle.laws.specs.Bytes.{pieces}
 use Rattle.model.specs.Limits.{tab}
 use Rattle.model.specs.declared.Kind.{Kind}
 use Rattle.model.specs.declared.Found.{Found}
 use Rattle.model.specs.declared.Found.the-variants.{Is, Nothing}
-use Rattle.model.specs.Line.{Form, Word, Num, Item, shape, kinds, numbers, kindIn}
+use Rattle.model.specs.Line.{Item, shape, kinds, numbers, numsOf, kindIn}
 use Rattle.model.specs.Rules.{nth}
 pub use Rattle.lines.specs.declared.Said.{Said}
-
--- how many numbers a shape has
-unfoldable pub size : List Form → ℕ
-size [] = 0
-size (Word w ∷ ps) = size ps
-size (Num ∷ ps) = suc (size ps)
-
--- the numbers of a line of this kind: as many of five as its shape has
-unfoldable pub numsOf : Kind → ℕ → ℕ → ℕ → ℕ → ℕ → List ℕ
-numsOf k a b c d e = take (size (shape k)) (a ∷ b ∷ c ∷ d ∷ e ∷ [])
 
 abbrev pub numbersIn : List (List ℕ) → Found → List ℕ
 numbersIn fs Nothing = []

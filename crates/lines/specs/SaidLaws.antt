@@ -20,7 +20,8 @@ use Rattle.model.specs.declared.Found.{Found}
 use Rattle.model.specs.declared.Found.the-variants.{Is, Nothing}
 use Rattle.model.specs.Line.{Form, Word, Num, Item, bad, shape, kinds, hasShape, numbers, kindIn, itemFrom, itemOf, written}
 use Rattle.model.specs.Rules.{nth}
-use Rattle.lines.specs.Said.{Said, size, numsOf, numbersIn, saidAs, saidOf, itemAs, saidItem, itemSaid}
+use Rattle.lines.specs.Said.{Said, numbersIn, saidAs, saidOf, itemAs, saidItem, itemSaid}
+use Rattle.model.specs.Line.{size, numsOf}
 use Rattle.lines.specs.Code.{sizeIn, pickOf, saidBy, writtenBy}
 
 -- a kind that was found has its shape

@@ -12,7 +12,8 @@ ghost use Rattle.laws.specs.Fields.{before, after, count, field};
 ghost use Rattle.model.specs.Limits.{maxDigits, tab};
 ghost use Rattle.model.specs.Line.{bad, shape, kinds, kindIn, written};
 ghost use Rattle.lines.specs.Code as code;
-ghost use Rattle.lines.specs.Said.{saidOf, numsOf, size};
+ghost use Rattle.lines.specs.Said.{saidOf};
+ghost use Rattle.model.specs.Line.{numsOf, size};
 
 const TAB: u8 = 9;
 

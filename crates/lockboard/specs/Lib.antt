@@ -1,3 +1,5 @@
 pub mod Facts
 pub mod Board
 pub mod Events
+pub mod View
+pub mod BoardLaws

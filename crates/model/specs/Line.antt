@@ -4,6 +4,7 @@ use mathlib.Core.List.{List, [], _∷_, tail}
 use mathlib.Core.Option.{Option, some, none}
 use mathlib.Core.Bool.{Bool, true, false, cond, _&&_}
 use lib.Dec.{ltb}
+use lib.ListN.{take}
 use Rattle.laws.specs.Bytes.{pieces, joined, same}
 use Rattle.laws.specs.Decimal.{value, decimal}
 use Rattle.model.specs.Limits.{maxDigits, tab}
@@ -209,3 +210,13 @@ written [] (n ∷ ns) = false
 written (Word w ∷ ps) ns = written ps ns
 written (Num ∷ ps) [] = false
 written (Num ∷ ps) (n ∷ ns) = ltb n bad && written ps ns
+
+-- how many numbers a shape has
+unfoldable pub size : List Form → ℕ
+size [] = 0
+size (Word w ∷ ps) = size ps
+size (Num ∷ ps) = suc (size ps)
+
+-- the numbers of a line of this kind: as many of five as its shape has
+unfoldable pub numsOf : Kind → ℕ → ℕ → ℕ → ℕ → ℕ → List ℕ
+numsOf k a b c d e = take (size (shape k)) (a ∷ b ∷ c ∷ d ∷ e ∷ [])

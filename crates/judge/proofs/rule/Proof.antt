@@ -1,6 +1,7 @@
 use mathlib.Core.Path.{refl}
 use Rattle.model.specs.Line.{shape}
-use Rattle.judge.specs.Coded.{size, numsOf, ruled}
+use Rattle.judge.specs.Coded.{ruled}
+use Rattle.model.specs.Line.{size, numsOf}
 use Rattle.judge.proofs.Laws.{rule-told}
 use borrow.Author.Needs.{needs}
 use Rattle.judge.proofs.rule.Statement.{statement}

@@ -1,5 +1,6 @@
 use Rattle.model.specs.Line.{shape}
-use Rattle.judge.specs.Coded.{size, numsOf, seenBy}
+use Rattle.judge.specs.Coded.{seenBy}
+use Rattle.model.specs.Line.{size, numsOf}
 use Rattle.judge.proofs.Laws.{seen-told}
 use borrow.Author.Needs.{needs}
 use Rattle.judge.proofs.seen_after.Statement.{statement}

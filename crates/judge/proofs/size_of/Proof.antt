@@ -1,5 +1,5 @@
 use Rattle.model.specs.Line.{shape}
-use Rattle.judge.specs.Coded.{size}
+use Rattle.model.specs.Line.{size}
 use mathlib.Core.Path.{refl}
 use Rattle.judge.proofs.Laws.{told}
 use borrow.Author.Needs.{needs}

@@ -4,7 +4,7 @@ use Prim.Native.Nat.{ℕ}
 use borrow.Author.Needs.{needs}
 use Rattle.model.specs.declared.Kind.{Kind}
 use Rattle.model.specs.Line.{shape}
-use Rattle.lines.specs.Said.{size}
+use Rattle.model.specs.Line.{size}
 use Rattle.lines.proofs.size_of.Statement.{statement}
 use Rattle.lines.proofs.size_of.Tie as tie
 

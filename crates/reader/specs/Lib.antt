@@ -1,0 +1,5 @@
+pub mod Into
+pub mod Judged
+pub mod JudgedLaws
+pub mod RoomLaws
+pub mod Claims

@@ -1,0 +1,6 @@
+use borrow.Author.Needs.{needs}
+use Rattle.seats.proofs.figure.Statement.{statement}
+use Rattle.seats.proofs.figure.Tie as tie
+
+pub figure-spec : {M : Type 1} → statement M
+figure-spec = tie.close (tie.spec (λ c κs. search needs) (λ c κs. search needs) (λ c. cc))

@@ -1,0 +1,13 @@
+use mathlib.Core.Path.{refl}
+use Rattle.seats.specs.SeatLaws.{past}
+use borrow.Author.Needs.{needs}
+use Rattle.seats.proofs.holder.Statement.{statement}
+use Rattle.seats.proofs.holder.Tie as tie
+
+returns-2 : tie.Need-returns-2
+returns-2 c = rw (c .before .sub .ensures) at (past 0 (c .before .before .before .args .a .now) (c .before .sub .result) _ refl (c .if1 .left))
+
+pub holder-spec : {M : Type 1} → statement M
+holder-spec =
+    tie.close
+    (tie.spec (λ c κs. search needs) (λ c. search needs) (λ c. search needs) (λ c κs. search needs) (λ c. cc) returns-2)

@@ -1,0 +1,32 @@
+use Prim.Native.Nat.{_≤_}
+use borrow.Author.Needs.{needs}
+use mathlib.Core.Path.{_≡_}
+use mathlib.Core.Bool.{true, false, _&&_}
+use native.Mathlib.Omega.{arith}
+use Rattle.laws.specs.BoolLaws.{both-left, both-right}
+use Rattle.seats.specs.Seats.{isV, isN, isM}
+use Rattle.seats.specs.SeatLaws.{Ranges, in-range, ranges, when-yes, when-no}
+use Rattle.seats.proofs.lock.Statement.{statement}
+use Rattle.seats.proofs.lock.Tie as tie
+
+ok : (c : tie.Then1) → let a = c .before .before .before .before .before .before .before .args in ((isV (a .v) && isN (a .n)) && isM (a .m)) ≡ true
+ok c = cc
+
+inside : (c : tie.Then1) → let a = c .before .before .before .before .before .before .before .args in Ranges (a .v) (a .n) × ((1 ≤ a .m) × (a .m ≤ 32))
+inside c =
+    let a = c .before .before .before .before .before .before .before .args in
+    (ranges (a .v) (a .n) (both-left (isV (a .v) && isN (a .n)) (isM (a .m)) (ok c)), in-range (a .m) 1 32 (both-right (isV (a .v) && isN (a .n)) (isM (a .m)) (ok c)))
+
+returns : tie.Need-returns
+returns c = when-yes (ok (c .before)) (c .at .ensures)
+
+returns-2 : tie.Need-returns-2
+returns-2 c =
+    let a = c .before .before .before .before .before .before .before .args in
+    let e : ((isV (a .v) && isN (a .n)) && isM (a .m)) ≡ false = cc in
+    when-no _ e
+
+pub lock-spec : {M : Type 1} → statement M
+lock-spec =
+    tie.close
+    (tie.spec (λ c κs. search needs) (λ c κs. search needs) (λ c κs. search needs) (λ c κs. search needs) (λ c κs. search needs) (λ c. omega (arith, inside c)) (λ c. omega (arith, inside c)) (λ c. omega (arith, inside c)) (λ c. omega (arith, inside c)) (λ c. omega (arith, inside c)) (λ c. omega (arith, inside c)) (λ c. omega (arith, inside c)) (λ c. omega (arith, inside c)) (λ c κs. search needs) returns returns-2)

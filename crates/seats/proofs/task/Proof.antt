@@ -1,0 +1,28 @@
+use borrow.Author.Needs.{needs}
+use mathlib.Core.Path.{_≡_}
+use mathlib.Core.Bool.{true, false, _&&_}
+use native.Mathlib.Omega.{arith}
+use Rattle.seats.specs.Seats.{isV, isN}
+use Rattle.seats.specs.SeatLaws.{Ranges, ranges, when-yes, when-no}
+use Rattle.seats.proofs.task.Statement.{statement}
+use Rattle.seats.proofs.task.Tie as tie
+
+ok : (c : tie.Then1) → let a = c .before .before .before .before .before .args in (isV (a .v) && isN (a .n)) ≡ true
+ok c = cc
+
+inside : (c : tie.Then1) → let a = c .before .before .before .before .before .args in Ranges (a .v) (a .n)
+inside c = let a = c .before .before .before .before .before .args in ranges (a .v) (a .n) (ok c)
+
+returns : tie.Need-returns
+returns c = when-yes (ok (c .before)) (c .at .ensures)
+
+returns-2 : tie.Need-returns-2
+returns-2 c =
+    let a = c .before .before .before .before .before .args in
+    let e : (isV (a .v) && isN (a .n)) ≡ false = cc in
+    when-no _ e
+
+pub task-spec : {M : Type 1} → statement M
+task-spec =
+    tie.close
+    (tie.spec (λ c κs. search needs) (λ c κs. search needs) (λ c κs. search needs) (λ c. omega (arith, inside c)) (λ c. omega (arith, inside c)) (λ c. omega (arith, inside c)) (λ c. omega (arith, inside c)) (λ c. omega (arith, inside c)) (λ c κs. search needs) returns returns-2)

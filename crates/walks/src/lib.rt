@@ -1,0 +1,306 @@
+// Walks over the mutexes and the tasks of a board, on its arrays and the view of a plan.
+use seats::at;
+use seats::both;
+use seats::either;
+use seats::no;
+use seats::pick;
+use seats::sub;
+ghost use mathlib.Core.Path.{_≡_};
+ghost use mathlib.Core.Bool.{Bool, true, false, _&&_, _||_, not};
+ghost use mathlib.Core.List.{List, []};
+ghost use lib.Dec.{eqb, ltb, leb};
+ghost use Prim.Native.Nat.{ℕ, _+_, _-_, _*_, _≤_, _<_};
+ghost use lib.ListN.{getD};
+ghost use Rattle.laws.specs.Choice.{if_then_else_};
+ghost use Rattle.laws.specs.Range.{anyTo, allTo, highest, listTo};
+ghost use Rattle.seats.specs.Seats.{seatOf, holdsIt, isGlobal, isLocal, localWaiter, budgetOf, overrunOf};
+ghost use Rattle.walks.specs.Walks.{globalBy, holdsGlobal, clears, passes, lastHeld, heldGlobal, heldLocal, localUnder, rowOf, rowsOf, columnOf, rowWith, holdGood, waitGood, taskGood, tasksGood, seatGood};
+
+// The seat h is one of v's.
+fn of_vcpu(h: u64, v: u64) -> bool
+    requires { ⌜ v ≤ 16 ⌝ }
+    ensures { λ r. ⌜ r ≡ anyTo 8 (λ n. eqb h (seatOf v n)) ⌝ }
+{
+    let base = sub(v, 1) * 8;
+    both(base < h, h <= base + 8)
+}
+
+fn global_by(view: &[u64], a: &[u16], v: u64, m: u64) -> bool
+    requires { ⌜ v ≤ 16 ⌝ }
+    ensures { λ r. ⌜ r ≡ globalBy (now (view .entry)) (now (a .entry)) v m ⌝ }
+{
+    both(seats::is_global(view, m), of_vcpu(seats::holder(a, m), v))
+}
+
+// The tasks of v hold a global mutex.
+pub fn holds_global(view: &[u64], a: &[u16], v: u64) -> bool
+    requires { ⌜ v ≤ 16 ⌝ }
+    ensures { λ r. ⌜ r ≡ holdsGlobal (now (view .entry)) (now (a .entry)) v ⌝ }
+{
+    let mut m = 0;
+    while m < 32 {
+        m += 1;
+        if global_by(view, a, v, m) {
+            return true;
+        }
+    }
+    false
+}
+
+fn clears(view: &[u64], a: &[u16], v: u64, n: u64, m: u64) -> bool
+    requires { ⌜ (v ≤ 16) × (n ≤ 8) ⌝ }
+    ensures { λ r. ⌜ r ≡ clears (now (view .entry)) (now (a .entry)) v n m ⌝ }
+{
+    let bars = both(
+        seats::is_local(view, v, m),
+        seats::held_by_other(a, v, n, m),
+    );
+    either(no(bars), seats::ceiling(view, m) < n)
+}
+
+// n is above the ceiling of every local mutex of v held by other tasks.
+pub fn passes(view: &[u64], a: &[u16], v: u64, n: u64) -> bool
+    requires { ⌜ (v ≤ 16) × (n ≤ 8) ⌝ }
+    ensures { λ r. ⌜ r ≡ passes (now (view .entry)) (now (a .entry)) v n ⌝ }
+{
+    let mut m = 0;
+    while m < 32 {
+        m += 1;
+        if !clears(view, a, v, n, m) {
+            return false;
+        }
+    }
+    true
+}
+
+// The highest mutex that task (v, n) holds, 0 for none.
+pub fn last_held(a: &[u16], v: u64, n: u64) -> u64
+    requires { ⌜ (v ≤ 16) × (n ≤ 8) ⌝ }
+    ensures { λ r. ⌜ r ≡ lastHeld (now (a .entry)) v n ⌝ }
+{
+    let mut m = 32;
+    while 0 < m {
+        if seats::holds(a, v, n, m) {
+            return m;
+        }
+        m -= 1;
+    }
+    0
+}
+
+// Task (v, n) holds a global mutex.
+pub fn held_global(view: &[u64], a: &[u16], v: u64, n: u64) -> bool
+    requires { ⌜ (v ≤ 16) × (n ≤ 8) ⌝ }
+    ensures { λ r. ⌜ r ≡ heldGlobal (now (view .entry)) (now (a .entry)) v n ⌝ }
+{
+    let mut m = 0;
+    while m < 32 {
+        m += 1;
+        if both(seats::is_global(view, m), seats::holds(a, v, n, m)) {
+            return true;
+        }
+    }
+    false
+}
+
+// The local mutex that task (v, n) holds, 0 for none.
+pub fn held_local(view: &[u64], a: &[u16], v: u64, n: u64) -> u64
+    requires { ⌜ (v ≤ 16) × (n ≤ 8) ⌝ }
+    ensures { λ r. ⌜ r ≡ heldLocal (now (view .entry)) (now (a .entry)) v n ⌝ }
+{
+    let mut m = 32;
+    while 0 < m {
+        if both(seats::is_local(view, v, m), seats::holds(a, v, n, m)) {
+            return m;
+        }
+        m -= 1;
+    }
+    0
+}
+
+// The highest task of v, not above the cap, that waits for a local mutex of v; 0 for none.
+pub fn local_under(view: &[u64], a: &[u8], v: u64, cap: u64) -> u64
+    requires { ⌜ v ≤ 16 ⌝ }
+    ensures { λ r. ⌜ (r ≡ localUnder (now (view .entry)) (now (a .entry)) v cap) × (r ≤ 8) ⌝ }
+{
+    let mut n = 8;
+    while 0 < n {
+        if both(seats::local_waiter(view, a, v, n), n <= cap) {
+            return n;
+        }
+        n -= 1;
+    }
+    0
+}
+
+// The waiting marks by rows of VCPUs and columns of tasks.
+pub fn row(a: &[u8], v: u64) -> [u8; 8]
+    requires { ⌜ v ≤ 16 ⌝ }
+    ensures { λ r. ⌜ r ≡ rowOf (now (a .entry)) v ⌝ }
+{
+    let mut row = [0u8; 8];
+    let mut n = 0;
+    while n < 8 {
+        row[n] = seats::kept_wait(a, v, n as u64 + 1);
+        n += 1;
+    }
+    row
+}
+
+pub fn rows(a: &[u8]) -> [[u8; 8]; 16]
+    ensures { λ r. ⌜ r ≡ rowsOf (now (a .entry)) ⌝ }
+{
+    let none = [0u8; 8];
+    let mut rows = [none; 16];
+    let mut v = 0;
+    while v < 16 {
+        rows[v] = row(a, v as u64 + 1);
+        v += 1;
+    }
+    rows
+}
+
+// The highest column that has the mark w, 0 for none.
+pub fn column(row: [u8; 8], w: u8) -> u64
+    ensures { λ r. ⌜ (r ≡ columnOf row w) × (r ≤ 8) ⌝ }
+{
+    let mut n: usize = 8;
+    while 0 < n {
+        if row[n - 1] == w {
+            return n as u64;
+        }
+        n -= 1;
+    }
+    0
+}
+
+// The highest row that has the mark w, 0 for none.
+pub fn row_with(rows: [[u8; 8]; 16], w: u8) -> u64
+    ensures { λ r. ⌜ (r ≡ rowWith rows w) × (r ≤ 16) ⌝ }
+{
+    let mut v: usize = 16;
+    while 0 < v {
+        if 0 < column(rows[v - 1], w) {
+            return v as u64;
+        }
+        v -= 1;
+    }
+    0
+}
+
+// The conditions on what task (v, n) holds and waits for.
+fn hold_good<'a>(view: &[u64], a: &'a [u16], ws: &'a [u8], v: u64, n: u64, m: u64) -> bool
+    requires { ⌜ (v ≤ 16) × (n ≤ 8) ⌝ }
+    ensures { λ r. ⌜ r ≡ holdGood (now (view .entry)) (now (a .entry)) (now (ws .entry)) v n m ⌝ }
+{
+    if seats::holds(a, v, n, m) {
+        let free = seats::wait(ws, v, n) == 0;
+        let one = last_held(a, v, n) == m;
+        return both(seats::lists(view, v, n, m), both(free, one));
+    }
+    true
+}
+
+fn holds_good<'a>(view: &[u64], a: &'a [u16], ws: &'a [u8], v: u64, n: u64) -> bool
+    requires { ⌜ (v ≤ 16) × (n ≤ 8) ⌝ }
+    ensures { λ r. ⌜ r ≡ allTo 32 (λ m. holdGood (now (view .entry)) (now (a .entry)) (now (ws .entry)) v n m) ⌝ }
+{
+    let mut m = 0;
+    while m < 32 {
+        m += 1;
+        if !hold_good(view, a, ws, v, n, m) {
+            return false;
+        }
+    }
+    true
+}
+
+fn wait_good<'a>(view: &[u64], a: &'a [u16], ws: &'a [u8], v: u64, n: u64) -> bool
+    requires { ⌜ (v ≤ 16) × (n ≤ 8) ⌝ }
+    ensures { λ r. ⌜ r ≡ waitGood (now (view .entry)) (now (a .entry)) (now (ws .entry)) v n ⌝ }
+{
+    let w = seats::wait(ws, v, n);
+    if w == 0 {
+        return true;
+    }
+    let other = seats::held_by_other(a, v, n, w);
+    let fails = no(passes(view, a, v, n));
+    both(
+        seats::lists(view, v, n, w),
+        pick(seats::is_global(view, w), other, fails),
+    )
+}
+
+fn task_good<'a>(view: &[u64], a: &'a [u16], ws: &'a [u8], v: u64, n: u64) -> bool
+    requires { ⌜ (v ≤ 16) × (n ≤ 8) ⌝ }
+    ensures { λ r. ⌜ r ≡ taskGood (now (view .entry)) (now (a .entry)) (now (ws .entry)) v n ⌝ }
+{
+    both(wait_good(view, a, ws, v, n), holds_good(view, a, ws, v, n))
+}
+
+fn tasks_good<'a>(view: &[u64], a: &'a [u16], ws: &'a [u8], v: u64) -> bool
+    requires { ⌜ v ≤ 16 ⌝ }
+    ensures { λ r. ⌜ r ≡ tasksGood (now (view .entry)) (now (a .entry)) (now (ws .entry)) v ⌝ }
+{
+    let mut n = 0;
+    while n < 8 {
+        n += 1;
+        if !task_good(view, a, ws, v, n) {
+            return false;
+        }
+    }
+    true
+}
+
+// The conditions on what all tasks hold and wait for.
+pub fn all_tasks_good<'a>(view: &[u64], a: &'a [u16], ws: &'a [u8]) -> bool
+    ensures { λ r. ⌜ r ≡ allTo 16 (λ v. tasksGood (now (view .entry)) (now (a .entry)) (now (ws .entry)) v) ⌝ }
+{
+    let mut v = 0;
+    while v < 16 {
+        v += 1;
+        if !tasks_good(view, a, ws, v) {
+            return false;
+        }
+    }
+    true
+}
+
+// Each holder is a seat, or none.
+pub fn seats_good(a: &[u16]) -> bool
+    ensures { λ r. ⌜ r ≡ allTo 32 (λ m. seatGood (now (a .entry)) m) ⌝ }
+{
+    let mut m = 0;
+    while m < 32 {
+        m += 1;
+        if 128 < seats::holder(a, m) {
+            return false;
+        }
+    }
+    true
+}
+
+// The budgets and the overruns of the view.
+pub fn budgets(view: &[u64]) -> [u64; 16]
+    ensures { λ r. ⌜ r ≡ listTo 16 (λ v. budgetOf (now (view .entry)) v) ⌝ }
+{
+    let mut all = [0u64; 16];
+    let mut v = 0;
+    while v < 16 {
+        all[v] = seats::budget(view, v as u64 + 1);
+        v += 1;
+    }
+    all
+}
+
+pub fn overruns(view: &[u64]) -> [u64; 16]
+    ensures { λ r. ⌜ r ≡ listTo 16 (λ v. overrunOf (now (view .entry)) v) ⌝ }
+{
+    let mut all = [0u64; 16];
+    let mut v = 0;
+    while v < 16 {
+        all[v] = seats::overrun(view, v as u64 + 1);
+        v += 1;
+    }
+    all
+}
