@@ -1,0 +1,446 @@
+// The test for 9: do tables hold what some accepted plan gives? (specs/Given of the tables; specs/Tests has its tests one by one.)
+use judge::Seen;
+use judge::fault_of;
+use judge::ready;
+use judge::seen_after;
+use judge::start;
+use model::Fault;
+use model::Kind;
+use model::OverrunChoice;
+use model::Policy;
+use tables::PlanRecord;
+use tables::at;
+ghost use mathlib.Core.Path.{_≡_};
+ghost use mathlib.Core.Bool.{true};
+ghost use mathlib.Core.List.{[]};
+ghost use Prim.Native.Nat.{_*_, _-_, _≤_, _<_};
+ghost use lib.Dec.{leb};
+ghost use lib.ListN.{length};
+ghost use Rattle.laws.specs.Rows.{rows};
+ghost use Rattle.model.specs.Limits.{maxLocks};
+ghost use Rattle.model.specs.Text.{policyKind};
+ghost use Rattle.judge.specs.Coded.{item};
+ghost use Rattle.tables.specs.Layout as layout;
+ghost use Rattle.tables.specs.Given as tables;
+ghost use Rattle.given.specs.Feed as feed;
+ghost use Rattle.given.specs.Tests as tests;
+
+// The numbers in a row of each table (specs/Layout of the tables).
+const VCPU_WIDTH: usize = 5;
+
+const MUTEX_WIDTH: usize = 2;
+
+const OPEN_WIDTH: usize = 2;
+
+const LOCK_WIDTH: usize = 3;
+
+const TASK_WIDTH: usize = 29;
+
+// Where the locks of a task begin.
+const FIRST_LOCK: usize = 5;
+
+// No plan has more rows of each table, and no task more locks (specs/Limits of the model).
+const MAX_VCPUS: usize = 16;
+
+const MAX_MUTEXES: usize = 32;
+
+const MAX_OPENS: usize = 128;
+
+const MAX_TASKS: usize = 64;
+
+const MAX_LOCKS: u64 = 8;
+
+// The judge at work: is no item so far at fault, and what is seen.
+struct Run {
+    ok: bool,
+    seen: Seen,
+}
+
+// Is nothing wrong?
+fn is_clear(f: Fault) -> bool
+    ensures { λ r. ⌜ r ≡ tables.isClear f ⌝ }
+{
+    match f {
+        Fault::Clear => true,
+        Fault::Bad(_) => false,
+    }
+}
+
+// After one item more.
+fn fed(run: Run, kind: Kind, a: u64, b: u64, c: u64, d: u64, e: u64) -> Run
+    ensures { λ r. ⌜ r ≡ feed.feed run (item kind a b c d e) ⌝ }
+{
+    let seen = run.seen;
+    let ok = run.ok & is_clear(fault_of(seen, kind, a, b, c, d, e));
+    let next = seen_after(seen, kind, a, b, c, d, e);
+    Run { ok: ok, seen: next }
+}
+
+// Before the first item.
+fn fresh() -> Run
+    ensures { λ r. ⌜ r ≡ feed.fresh ⌝ }
+{
+    let seen = start();
+    Run {
+        ok: true,
+        seen: seen,
+    }
+}
+
+// Is no item at fault, and may the plan stop here?
+fn passing(run: Run) -> bool
+    ensures { λ r. ⌜ r ≡ feed.passing run ⌝ }
+{
+    let seen = run.seen;
+    run.ok & ready(seen)
+}
+
+// Place j of row i, in rows of w numbers.
+fn cell(t: &[u64], w: usize, i: usize, j: usize) -> u64
+    requires { ⌜ (i ≤ tests.mostRows) × (w ≤ layout.taskWidth) × (j ≤ layout.taskWidth) ⌝ }
+    ensures { λ r. ⌜ r ≡ layout.cell (now (t .entry)) w i j ⌝ }
+{
+    at(t, i * w + j)
+}
+
+// After row i of the VCPUs.
+fn fed_vcpu(run: Run, t: &[u64], i: usize) -> Run
+    requires { ⌜ i ≤ tests.mostRows ⌝ }
+    ensures { λ r. ⌜ r ≡ feed.feeds run (feed.vcpuLines (now (t .entry)) i) ⌝ }
+{
+    let v = cell(t, VCPU_WIDTH, i, 0);
+    let guest = cell(t, VCPU_WIDTH, i, 1);
+    let core = cell(t, VCPU_WIDTH, i, 2);
+    let budget = cell(t, VCPU_WIDTH, i, 3);
+    let period = cell(t, VCPU_WIDTH, i, 4);
+    fed(run, Kind::VcpuLine, v, guest, core, budget, period)
+}
+
+// A mutex is global where its owner is 0.
+fn owner_kind(owner: u64) -> Kind
+    ensures { λ r. ⌜ r ≡ feed.ownerKind owner ⌝ }
+{
+    if owner == 0 {
+        Kind::MutexG
+    } else {
+        Kind::MutexL
+    }
+}
+
+// After row i of the mutexes.
+fn fed_mutex(run: Run, t: &[u64], i: usize) -> Run
+    requires { ⌜ i ≤ tests.mostRows ⌝ }
+    ensures { λ r. ⌜ r ≡ feed.feeds run (feed.mutexLines (now (t .entry)) i) ⌝ }
+{
+    let m = cell(t, MUTEX_WIDTH, i, 0);
+    let owner = cell(t, MUTEX_WIDTH, i, 1);
+    let kind = owner_kind(owner);
+    fed(run, kind, m, owner, 0, 0, 0)
+}
+
+// After row i of the openings.
+fn fed_open(run: Run, t: &[u64], i: usize) -> Run
+    requires { ⌜ i ≤ tests.mostRows ⌝ }
+    ensures { λ r. ⌜ r ≡ feed.feeds run (feed.openLines (now (t .entry)) i) ⌝ }
+{
+    let m = cell(t, OPEN_WIDTH, i, 0);
+    let guest = cell(t, OPEN_WIDTH, i, 1);
+    fed(run, Kind::OpenLine, m, guest, 0, 0, 0)
+}
+
+// After lock j of task i.
+fn fed_lock(run: Run, t: &[u64], i: usize, j: usize) -> Run
+    requires { ⌜ (i ≤ tests.mostRows) × (j < maxLocks) ⌝ }
+    ensures { λ r. ⌜ r ≡ feed.feeds run (feed.lockLines (now (t .entry)) i j) ⌝ }
+{
+    let m = cell(t, TASK_WIDTH, i, FIRST_LOCK + (j * LOCK_WIDTH + 0));
+    let ticks = cell(t, TASK_WIDTH, i, FIRST_LOCK + (j * LOCK_WIDTH + 1));
+    let after = cell(t, TASK_WIDTH, i, FIRST_LOCK + (j * LOCK_WIDTH + 2));
+    let held = fed(run, Kind::LockLine, m, ticks, 0, 0, 0);
+    fed(held, Kind::RunLine, after, 0, 0, 0, 0)
+}
+
+// After the first n rows of the VCPUs.
+fn fed_vcpus(run: Run, t: &[u64], n: usize) -> Run
+    requires { ⌜ n ≤ tests.mostRows ⌝ }
+    ensures { λ r. ⌜ r ≡ feed.feeds run (feed.lined n (feed.vcpuLines (now (t .entry)))) ⌝ }
+{
+    let mut s = run;
+    let mut i = 0;
+    while i < n {
+        s = fed_vcpu(s, t, i);
+        i += 1;
+    }
+    s
+}
+
+// After the first n rows of the mutexes.
+fn fed_mutexes(run: Run, t: &[u64], n: usize) -> Run
+    requires { ⌜ n ≤ tests.mostRows ⌝ }
+    ensures { λ r. ⌜ r ≡ feed.feeds run (feed.lined n (feed.mutexLines (now (t .entry)))) ⌝ }
+{
+    let mut s = run;
+    let mut i = 0;
+    while i < n {
+        s = fed_mutex(s, t, i);
+        i += 1;
+    }
+    s
+}
+
+// After the first n rows of the openings.
+fn fed_opens(run: Run, t: &[u64], n: usize) -> Run
+    requires { ⌜ n ≤ tests.mostRows ⌝ }
+    ensures { λ r. ⌜ r ≡ feed.feeds run (feed.lined n (feed.openLines (now (t .entry)))) ⌝ }
+{
+    let mut s = run;
+    let mut i = 0;
+    while i < n {
+        s = fed_open(s, t, i);
+        i += 1;
+    }
+    s
+}
+
+// After the first n locks of task i.
+fn fed_locks(run: Run, t: &[u64], i: usize, n: usize) -> Run
+    requires { ⌜ (i ≤ tests.mostRows) × (n ≤ maxLocks) ⌝ }
+    ensures { λ r. ⌜ r ≡ feed.feeds run (feed.lined n (feed.lockLines (now (t .entry)) i)) ⌝ }
+{
+    let mut s = run;
+    let mut j = 0;
+    while j < n {
+        s = fed_lock(s, t, i, j);
+        j += 1;
+    }
+    s
+}
+
+// The guest of VCPU v: that of the first of n rows that has it, 0 where none has.
+fn guest_in(t: &[u64], n: usize, v: u64) -> u64
+    requires { ⌜ n ≤ tests.mostRows ⌝ }
+    ensures { λ r. ⌜ r ≡ tables.guestFor (rows n (layout.vcpuRow (now (t .entry)))) v ⌝ }
+{
+    let mut i = 0;
+    while i < n {
+        let guest = cell(t, VCPU_WIDTH, i, 1);
+        if cell(t, VCPU_WIDTH, i, 0) == v {
+            return guest;
+        }
+        i += 1;
+    }
+    0
+}
+
+// The number before i, 0 before 0.
+fn before(i: usize) -> usize
+    ensures { λ r. ⌜ r ≡ i - 1 ⌝ }
+{
+    if i == 0 { 0 } else { i - 1 }
+}
+
+// The guest of task i.
+fn host_of(vt: &[u64], n: usize, t: &[u64], i: usize) -> u64
+    requires { ⌜ (n ≤ tests.mostRows) × (i ≤ tests.mostRows) ⌝ }
+    ensures { λ r. ⌜ r ≡ feed.hostOf (rows n (layout.vcpuRow (now (vt .entry)))) (now (t .entry)) i ⌝ }
+{
+    guest_in(vt, n, cell(t, TASK_WIDTH, i, 0))
+}
+
+// Is task i the first, or its guest another than that of the task before it?
+fn begins(vt: &[u64], n: usize, t: &[u64], i: usize) -> bool
+    requires { ⌜ (n ≤ tests.mostRows) × (i ≤ tests.mostRows) ⌝ }
+    ensures { λ r. ⌜ r ≡ feed.begins (rows n (layout.vcpuRow (now (vt .entry)))) (now (t .entry)) i ⌝ }
+{
+    let last = host_of(vt, n, t, before(i));
+    (i == 0) | !(host_of(vt, n, t, i) == last)
+}
+
+// After a guest's line, if there is one.
+fn fed_guest(run: Run, on: bool, guest: u64) -> Run
+    ensures { λ r. ⌜ r ≡ feed.feeds run (feed.guestLine on guest []) ⌝ }
+{
+    if on {
+        fed(run, Kind::GuestLine, guest, 0, 0, 0, 0)
+    } else {
+        run
+    }
+}
+
+// After the first two lines of task i.
+fn fed_head(run: Run, t: &[u64], i: usize) -> Run
+    requires { ⌜ i ≤ tests.mostRows ⌝ }
+    ensures { λ r. ⌜ r ≡ feed.feeds run (feed.headLines (now (t .entry)) i []) ⌝ }
+{
+    let v = cell(t, TASK_WIDTH, i, 0);
+    let n = cell(t, TASK_WIDTH, i, 1);
+    let period = cell(t, TASK_WIDTH, i, 2);
+    let first = cell(t, TASK_WIDTH, i, 3);
+    let named = fed(run, Kind::TaskLine, v, n, period, 0, 0);
+    fed(named, Kind::RunLine, first, 0, 0, 0, 0)
+}
+
+// After the lines of task i.
+fn fed_task(run: Run, vt: &[u64], n: usize, t: &[u64], i: usize) -> Run
+    requires { ⌜ (n ≤ tests.mostRows) × (i ≤ tests.mostRows) × (layout.cell (now t) layout.taskWidth i 4 ≤ maxLocks) ⌝ }
+    ensures { λ r. ⌜ r ≡ feed.feeds run (feed.taskLines (rows n (layout.vcpuRow (now (vt .entry)))) (now (t .entry)) i) ⌝ }
+{
+    let on = begins(vt, n, t, i);
+    let guest = host_of(vt, n, t, i);
+    let count = cell(t, TASK_WIDTH, i, 4) as usize;
+    let led = fed_guest(run, on, guest);
+    let head = fed_head(led, t, i);
+    fed_locks(head, t, i, count)
+}
+
+// Are the places of task i from c on zero?
+fn zero_from(t: &[u64], i: usize, c: usize) -> bool
+    requires { ⌜ (i ≤ tests.mostRows) × (c ≤ layout.taskWidth) ⌝ }
+    ensures { λ r. ⌜ r ≡ tables.zeroFrom (now (t .entry)) i c ⌝ }
+{
+    let n = TASK_WIDTH - c;
+    let mut j = 0;
+    while j < n {
+        let zero = cell(t, TASK_WIDTH, i, c + j) == 0;
+        if !zero {
+            return false;
+        }
+        j += 1;
+    }
+    true
+}
+
+// Has task i few locks, and zeros in the places of those that it does not have?
+fn tidy(t: &[u64], i: usize) -> bool
+    requires { ⌜ i ≤ tests.mostRows ⌝ }
+    ensures { λ r. ⌜ r ≡ tests.tidy (now (t .entry)) i ⌝ }
+{
+    let count = cell(t, TASK_WIDTH, i, 4);
+    if count <= MAX_LOCKS {
+        zero_from(t, i, FIRST_LOCK + count as usize * LOCK_WIDTH)
+    } else {
+        false
+    }
+}
+
+// The same of each of n tasks.
+fn all_tidy(t: &[u64], n: usize) -> bool
+    requires { ⌜ n ≤ tests.mostRows ⌝ }
+    ensures { λ r. ⌜ r ≡ tests.allTidy (now (t .entry)) n ⌝ }
+{
+    let mut i = 0;
+    while i < n {
+        let one = tidy(t, i);
+        if !one {
+            return false;
+        }
+        i += 1;
+    }
+    true
+}
+
+// Are n rows of w numbers within a slice?
+fn has_room(n: usize, w: usize, t: &[u64]) -> bool
+    requires { ⌜ 0 < w ⌝ }
+    ensures { λ r. ⌜ r ≡ leb (n * w) (length (now (t .entry))) ⌝ }
+{
+    n <= t.len() / w
+}
+
+// Are the counts within the slices?
+fn roomy(r: PlanRecord, vt: &[u64], mt: &[u64], ot: &[u64], ts: &[u64]) -> bool
+    ensures { λ b. ⌜ b ≡ tables.roomy r (tests.lent (now (vt .entry)) (now (mt .entry)) (now (ot .entry)) (now (ts .entry))) ⌝ }
+{
+    let vcpus = has_room(r.vcpus, VCPU_WIDTH, vt);
+    let mutexes = has_room(r.mutexes, MUTEX_WIDTH, mt);
+    let opens = has_room(r.opens, OPEN_WIDTH, ot);
+    let tasks = has_room(r.tasks, TASK_WIDTH, ts);
+    vcpus & (mutexes & (opens & tasks))
+}
+
+// Are there no more rows than a plan can have?
+fn few(r: PlanRecord) -> bool
+    ensures { λ b. ⌜ b ≡ tests.few r ⌝ }
+{
+    (r.vcpus <= MAX_VCPUS)
+        & ((r.mutexes <= MAX_MUTEXES) & ((r.opens <= MAX_OPENS) & (r.tasks <= MAX_TASKS)))
+}
+
+// The kind of the policy's line.
+fn policy_kind(p: Policy, o: OverrunChoice) -> Kind
+    ensures { λ r. ⌜ r ≡ policyKind p o ⌝ }
+{
+    match p {
+        Policy::Periodic => match o {
+            OverrunChoice::WithOverrun => Kind::PolicyPO,
+            OverrunChoice::WithoutOverrun => Kind::PolicyPN,
+        },
+        Policy::Deferrable => match o {
+            OverrunChoice::WithOverrun => Kind::PolicyDO,
+            OverrunChoice::WithoutOverrun => Kind::PolicyDN,
+        },
+    }
+}
+
+// After the lines of the first m tasks.
+fn fed_tasks(run: Run, vt: &[u64], n: usize, t: &[u64], m: usize) -> Run
+    requires { ⌜ (n ≤ tests.mostRows) × (m ≤ tests.mostRows) × (tests.allTidy (now t) m ≡ true) ⌝ }
+    ensures { λ r. ⌜ r ≡ feed.feeds run (feed.lined m (feed.taskLines (rows n (layout.vcpuRow (now (vt .entry)))) (now (t .entry)))) ⌝ }
+{
+    let mut s = run;
+    let mut i = 0;
+    while i < m {
+        s = fed_task(s, vt, n, t, i);
+        i += 1;
+    }
+    s
+}
+
+// After the first two lines.
+fn fed_front(r: PlanRecord) -> Run
+    ensures { λ s. ⌜ s ≡ feed.feeds feed.fresh (tests.frontItems r []) ⌝ }
+{
+    let policy = r.policy;
+    let overrun = r.overrun;
+    let kind = policy_kind(policy, overrun);
+    let first = fed(fresh(), Kind::PlanLine, 0, 0, 0, 0, 0);
+    fed(first, kind, 0, 0, 0, 0, 0)
+}
+
+// Has no item of the rows a fault after those before it?
+fn clean_rows(r: PlanRecord, vt: &[u64], mt: &[u64], ot: &[u64], ts: &[u64]) -> bool
+    requires { ⌜ tests.Few r × (tests.allTidy (now ts) (r .tasks) ≡ true) ⌝ }
+    ensures { λ b. ⌜ b ≡ tests.cleanRows r (tests.lent (now (vt .entry)) (now (mt .entry)) (now (ot .entry)) (now (ts .entry))) ⌝ }
+{
+    let n = r.vcpus;
+    let front = fed_front(r);
+    let vcpus = fed_vcpus(front, vt, n);
+    let mutexes = fed_mutexes(vcpus, mt, r.mutexes);
+    let opens = fed_opens(mutexes, ot, r.opens);
+    let tasks = fed_tasks(opens, vt, n, ts, r.tasks);
+    let end = fed(tasks, Kind::EndLine, 0, 0, 0, 0, 0);
+    passing(end)
+}
+
+// Is every task's row as one of a plan, and has no item of the rows a fault?
+fn sound_rows(r: PlanRecord, vt: &[u64], mt: &[u64], ot: &[u64], ts: &[u64]) -> bool
+    requires { ⌜ tests.Few r ⌝ }
+    ensures { λ b. ⌜ b ≡ tests.soundRows r (tests.lent (now (vt .entry)) (now (mt .entry)) (now (ot .entry)) (now (ts .entry))) ⌝ }
+{
+    if all_tidy(ts, r.tasks) {
+        clean_rows(r, vt, mt, ot, ts)
+    } else {
+        false
+    }
+}
+
+// The test for 9: does some accepted plan give these tables with this record?
+pub fn is_given(r: PlanRecord, vt: &[u64], mt: &[u64], ot: &[u64], ts: &[u64]) -> bool
+    ensures { λ b. ⌜ b ≡ tables.isGiven r (record { vcpus = now (vt .entry); mutexes = now (mt .entry); opens = now (ot .entry); tasks = now (ts .entry) }) ⌝ }
+{
+    if roomy(r, vt, mt, ot, ts) & few(r) {
+        sound_rows(r, vt, mt, ot, ts)
+    } else {
+        false
+    }
+}
