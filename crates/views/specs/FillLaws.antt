@@ -1,0 +1,204 @@
+-- Laws of the code that writes the view: the first row that passes, the highest name that passes, and the cells by their places.
+use Prim.Native.Nat.{ℕ, zero, suc, _+_, _-_, _*_, _/_, _%_, _<_, _≤_}
+use mathlib.Core.Path.{_≡_, refl, ap, sym, _∙_}
+use mathlib.Core.Bool.{Bool, true, false, _&&_, _||_}
+use mathlib.Core.List.{List, [], _∷_, _++_}
+use native.Mathlib.Decide.{le-ind}
+use native.Mathlib.Omega.{arith}
+use borrow.Author.Count.{below-more}
+use lib.Dec.{eqb, ltb}
+use lib.ListN.{length, getD, set, take, length-set, length-take}
+use lib.Seq.{getD-set-same, getD-set-other, getD-take, ext-getD}
+use Rattle.laws.specs.BoolLaws.{both-left, both-right, both, neither-left, neither-right}
+use Rattle.laws.specs.Choice.{when}
+use Rattle.laws.specs.Sums.{any, first}
+use Rattle.laws.specs.SumLaws.{first-in, first-out}
+use Rattle.laws.specs.Range.{highest}
+use Rattle.laws.specs.RangeLaws.{highest-hit, highest-miss}
+use Rattle.laws.specs.Rows.{rows, Lacking}
+use Rattle.laws.specs.RowLaws.{any-found}
+use Rattle.model.specs.Limits.{maxV, maxM, maxN}
+use Rattle.model.specs.declared.Policy.{Policy}
+use Rattle.model.specs.declared.OverrunChoice.{OverrunChoice}
+use Rattle.model.specs.Plan.{Plan}
+use Rattle.model.specs.Valid.{Valid}
+use Rattle.figures.specs.System.{System, system}
+use Rattle.figures.specs.Figures.{vcpuAt, ght, overrunBy, overrunOf, ceiling}
+use Rattle.lockboard.specs.Facts.{hasTask, lists, factsOf}
+use Rattle.lockboard.specs.View.{atOverrun, atOwner, atCeiling, atTask, atLists, viewLength, globalOwner, isV, isN, isM, factsIn}
+use Rattle.lockboard.specs.Board.{seat}
+use Rattle.keeps.specs.Fair.{Fair}
+use Rattle.keeps.specs.FairLaws.{fair}
+use Rattle.views.specs.ViewOf.{bit, ownerOf, viewOf}
+use Rattle.views.specs.ViewLaws.{name-in, in-name, facts-in, view-length, budget-cell, overrun-cell, owner-cell, ceiling-cell, task-cell, sheet-cell}
+
+-- THE FIRST ROW THAT PASSES
+module _ {A : Type 0} (q : A → Bool) (d : A) where
+  first-after : (xs ys : List A) → any q xs ≡ false → first q d (xs ++ ys) ≡ first q d ys
+  unfolding any
+  first-after [] ys h = refl
+  first-after (x ∷ xs) ys h =
+      first-out q d x (xs ++ ys) (neither-left (q x) (any q xs) h) ∙ first-after xs ys (neither-right (q x) (any q xs) h)
+
+  first-before : (xs ys : List A) → any q xs ≡ true → first q d (xs ++ ys) ≡ first q d xs
+  unfolding any
+  first-before [] ys h = absurd (let z : _≡_ {A = ℕ} 0 1 = cc in omega arith)
+  first-before (x ∷ xs) ys h = go (q x) refl h (first-before xs ys)
+    where
+      go :
+          (t : Bool) → q x ≡ t → (t || any q xs) ≡ true → (any q xs ≡ true → first q d (xs ++ ys) ≡ first q d xs) →
+          first q d (x ∷ (xs ++ ys)) ≡ first q d (x ∷ xs)
+      go true e h ih = first-in q d x (xs ++ ys) e ∙ sym (first-in q d x xs e)
+      go false e h ih = first-out q d x (xs ++ ys) e ∙ ih h ∙ sym (first-out q d x xs e)
+
+  -- no row before row i passes, and it does
+  pub first-row : (row : ℕ → A) (n i : ℕ) → Lacking q row n i → i < n → q (row i) ≡ true → first q d (rows n row) ≡ row i
+  unfolding rows
+  first-row row n i h l e =
+      le-ind (λ m. first q d (rows m row) ≡ row i)
+      (first-after (rows i row) (row i ∷ []) (h .is) ∙ first-in q d (row i) [] e)
+      (λ m k t. first-before (rows m row) (row m ∷ []) (any-found q row m i k e) ∙ t)
+      n
+      l
+
+-- THE HIGHEST NAME THAT PASSES, from n down: none above v does
+pub record Above (n : ℕ) (f : ℕ → Bool) (v : ℕ) : Type 0 where
+  pub within : v ≤ n
+  pub is : highest n f ≡ highest v f
+
+module _ {n : ℕ} {f : ℕ → Bool} where
+  pub above-none : Above n f n
+  above-none = record { within = omega arith; is = refl }
+
+  pub above-more : {v : ℕ} {t : Bool} → Above n f v → 0 < v → t ≡ f v → t ≡ false → Above n f (v - 1)
+  above-more {v = zero} h l e k = absurd (omega arith)
+  above-more {v = suc v} h l e k =
+      let z : suc v - 1 ≡ v = omega arith in rw z (record { within = omega (arith, h .within); is = h .is ∙ highest-miss v f (sym e ∙ k) })
+
+  pub above-out : {v : ℕ} {t : Bool} → Above n f v → 0 < v → t ≡ f v → t ≡ true → v ≡ highest n f
+  above-out {v = zero} h l e k = absurd (omega arith)
+  above-out {v = suc v} h l e k = sym (h .is ∙ highest-hit v f (sym e ∙ k))
+
+  pub above-all : {v : ℕ} → Above n f v → v ≤ 0 → 0 ≡ highest n f
+  unfolding highest
+  above-all {v = zero} h l = sym (h .is)
+  above-all {v = suc v} h l = absurd (omega arith)
+
+-- the overrun of a VCPU, by its ght
+pub overrun-is : {x g : ℕ} (s : System) (v : ℕ) → x ≡ overrunBy (s .overrun) g → g ≡ ght s v → x ≡ overrunOf s v
+unfolding overrunOf
+overrun-is s v e h = e ∙ ap (overrunBy (s .overrun)) h
+
+-- THE CELLS BY THEIR PLACES
+module _ (s : System) where
+  -- the cell at j is the cell at k
+  at-place : {x : ℕ} (j k : ℕ) → j ≡ k → getD (viewOf s) j 0 ≡ x → x ≡ getD (viewOf s) k 0
+  at-place j k e h = rw e at (sym h)
+
+  pub budget-place : (k : ℕ) → k < 16 → vcpuAt s (k + 1) .budget ≡ getD (viewOf s) k 0
+  budget-place k l = at-place (k + 1 - 1) k (omega arith) (budget-cell s (k + 1) (name-in (k + 1) maxV (omega arith) (omega arith)))
+
+  pub overrun-place : (k : ℕ) → 16 ≤ k → k < 32 → overrunOf s (k - 15) ≡ getD (viewOf s) k 0
+  overrun-place k h l = at-place (16 + (k - 15 - 1)) k (omega arith) (overrun-cell s (k - 15) (name-in (k - 15) maxV (omega arith) (omega arith)))
+
+  pub owner-place : (k : ℕ) → 32 ≤ k → k < 64 → ownerOf s (k - 31) ≡ getD (viewOf s) k 0
+  owner-place k h l = at-place (32 + (k - 31 - 1)) k (omega arith) (owner-cell s (k - 31) (name-in (k - 31) maxM (omega arith) (omega arith)))
+
+  pub ceiling-place : (k : ℕ) → 64 ≤ k → k < 96 → ceiling s (k - 63) ≡ getD (viewOf s) k 0
+  ceiling-place k h l = at-place (64 + (k - 63 - 1)) k (omega arith) (ceiling-cell s (k - 63) (name-in (k - 63) maxM (omega arith) (omega arith)))
+
+  pub task-place : (k : ℕ) → 96 ≤ k → k < 224 → bit (hasTask s ((k - 96) / 8 + 1) ((k - 96) % 8 + 1)) ≡ getD (viewOf s) k 0
+  task-place k h l =
+      let v = (k - 96) / 8 + 1 in
+      let n = (k - 96) % 8 + 1 in
+      at-place (96 + (seat v n - 1)) k (omega arith)
+      (task-cell s v n (both (isV v) (isN n) (name-in v maxV (omega arith) (omega arith)) (name-in n maxN (omega arith) (omega arith))))
+
+  pub sheet-place :
+      (k : ℕ) → 224 ≤ k → k < 4320 → bit (lists s ((k - 224) / 256 + 1) ((k - 224) / 32 % 8 + 1) ((k - 224) % 32 + 1)) ≡ getD (viewOf s) k 0
+  sheet-place k h l =
+      let v = (k - 224) / 256 + 1 in
+      let n = (k - 224) / 32 % 8 + 1 in
+      let m = (k - 224) % 32 + 1 in
+      at-place (224 + ((seat v n - 1) * 32 + (m - 1))) k (omega arith)
+      (sheet-cell s v n m
+      (both (isV v && isN n) (isM m)
+      (both (isV v) (isN n) (name-in v maxV (omega arith) (omega arith)) (name-in n maxN (omega arith) (omega arith))) (name-in m maxM (omega arith) (omega arith))))
+
+-- the first i numbers are the view's
+pub record Written (s : System) (n : ℕ) (view : List ℕ) (i k : ℕ) : Type 0 where
+  pub same : i ≡ k
+  pub within : k ≤ viewLength
+  pub room : length view ≡ n
+  pub at : (j : ℕ) → j < k → getD view j 0 ≡ getD (viewOf s) j 0
+
+module _ {s : System} {n : ℕ} where
+  pub written-none : {view : List ℕ} → length view ≡ n → Written s n view 0 0
+  written-none e = record { same = refl; within = omega arith; room = e; at = λ j l. absurd (omega arith) }
+
+  pub written-more :
+      {view : List ℕ} {i k x : ℕ} → viewLength ≤ n → Written s n view i k → k < viewLength → x ≡ getD (viewOf s) k 0 →
+      Written s n (set view i x) (i + 1) (k + 1)
+  written-more {view} {i} {k} {x} r h l e = record {
+    same = omega (arith, h .same);
+    within = omega arith;
+    room = length-set view i x ∙ h .room;
+    at =
+        let z : k ≡ i = sym (h .same) in
+        below-more _ _ (λ j m. rw (getD-set-other view i j x 0 (λ q. omega arith)) (h .at j m))
+        (rw z (getD-set-same view i x 0 (omega (arith, h .room)) ∙ (rw z at e)));
+  }
+
+  pub written-all : {view : List ℕ} {i k : ℕ} → viewLength ≤ n → Written s n view i k → viewLength ≤ k → take viewLength view ≡ viewOf s
+  written-all {view} r h l =
+      let e = length-take viewLength view in
+      let a = view-length s in
+      let b = h .room in
+      ext-getD 0 (take viewLength view) (viewOf s) (omega arith) (λ j m. getD-take viewLength view j 0 (omega arith) ∙ h .at j (omega arith))
+
+-- A LONGER VIEW
+
+-- tests, and numbers, that are the same where c holds
+on : (c : Bool) {t u : Bool} → (c ≡ true → t ≡ u) → (c && t) ≡ (c && u)
+on true h = h refl
+on false h = refl
+
+number-on : (c : Bool) {x y : ℕ} → (c ≡ true → x ≡ y) → when c x ≡ when c y
+unfolding when
+number-on true h = h refl
+number-on false h = refl
+
+in-seat : (v n : ℕ) → (isV v && isN n) ≡ true → (0 < v) × (v ≤ maxV) × (0 < n) × (n ≤ maxN)
+in-seat v n e =
+    let a = in-name v maxV (both-left (isV v) _ e) in
+    let b = in-name n maxN (both-right (isV v) _ e) in (a .0, a .1, b .0, b .1)
+
+module _ (p : Policy) (o : OverrunChoice) (t : List ℕ) where
+  -- the cell i of the first numbers
+  kept : (i : ℕ) → i < viewLength → getD (take viewLength t) i 0 ≡ getD t i 0
+  kept i l = getD-take viewLength t i 0 l
+
+  -- what stands past the view's length says nothing
+  pub facts-take : factsIn p o (take viewLength t) ≡ factsIn p o t
+  unfolding factsIn
+  facts-take = λ i. record {
+    policy = p;
+    choice = o;
+    hasVcpu = λ v. on (isV v) (λ e. ap (ltb 0) (kept (v - 1) (let h = in-name v maxV e in omega arith))) i;
+    budget = λ v. number-on (isV v) (λ e. kept (v - 1) (let h = in-name v maxV e in omega arith)) i;
+    overrun = λ v. number-on (isV v) (λ e. kept (atOverrun + (v - 1)) (let h = in-name v maxV e in omega arith)) i;
+    hasTask = λ v n. on (isV v && isN n) (λ e. ap (ltb 0) (kept (atTask + (seat v n - 1)) (let h = in-seat v n e in omega arith))) i;
+    lists = λ v n m. on ((isV v && isN n) && isM m) (λ e.
+        ap (ltb 0) (kept (atLists + ((seat v n - 1) * maxM + (m - 1))) (let h = in-seat v n (both-left (isV v && isN n) _ e) in let g = in-name m maxM (both-right (isV v && isN n) _ e) in omega arith))) i;
+    hasMutex = λ m. on (isM m) (λ e. ap (ltb 0) (kept (atOwner + (m - 1)) (let h = in-name m maxM e in omega arith))) i;
+    global = λ m. on (isM m) (λ e. ap (λ x. eqb x globalOwner) (kept (atOwner + (m - 1)) (let h = in-name m maxM e in omega arith))) i;
+    localTo = λ v m. on (isV v && isM m) (λ e. ap (λ x. eqb x v) (kept (atOwner + (m - 1)) (let h = in-name m maxM (both-right (isV v) _ e) in omega arith))) i;
+    ceiling = λ m. number-on (isM m) (λ e. kept (atCeiling + (m - 1)) (let h = in-name m maxM e in omega arith)) i;
+  }
+
+-- a slice that begins with the view of a valid plan says the plan's facts
+pub filled-facts : (p : Plan) (t : List ℕ) → Valid p → take viewLength t ≡ viewOf (system p) → factsIn (p .policy) (p .overrun) t ≡ factsOf (system p)
+filled-facts p t h e = sym (facts-take (p .policy) (p .overrun) t) ∙ ap (factsIn (p .policy) (p .overrun)) e ∙ facts-in p h
+
+pub filled-fair : (p : Plan) (t : List ℕ) → Valid p → take viewLength t ≡ viewOf (system p) → Fair (factsIn (p .policy) (p .overrun) t)
+filled-fair p t h e = rw (filled-facts p t h e) (fair p h)

@@ -1,0 +1,6 @@
+pub mod ViewOf
+pub mod PartLaws
+pub mod OwnerLaws
+pub mod ViewLaws
+pub mod FillLaws
+pub mod TableLaws
