@@ -17,10 +17,9 @@ use Rattle.model.specs.Rules as known
 use Rattle.model.specs.Reading.{Passes, rules}
 use Rattle.model.specs.ValidLaws.{passes-valid, valid-passes}
 use Rattle.model.specs.declared.Kind.the-variants.{EndLine}
-use Rattle.model.specs.Line.{Item, shape}
+use Rattle.model.specs.Line.{Item, shape, size, numsOf}
 use Rattle.model.specs.Text as text
 use Rattle.judge.specs.Coded.{coded, start, item}
-use Rattle.model.specs.Line.{size, numsOf}
 use Rattle.judge.specs.Agrees.{same-passes}
 use Rattle.tables.specs.declared.PlanRecord.{PlanRecord}
 use Rattle.tables.specs.Layout.{Tables, taskWidth, lockWidth, firstLock, cell, vcpuRow}

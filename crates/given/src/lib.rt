@@ -233,7 +233,7 @@ fn guest_in(t: &[u64], n: usize, v: u64) -> u64
 }
 
 // The number before i, 0 before 0.
-fn before(i: usize) -> usize
+fn prior(i: usize) -> usize
     ensures { λ r. ⌜ r ≡ i - 1 ⌝ }
 {
     if i == 0 { 0 } else { i - 1 }
@@ -252,7 +252,7 @@ fn begins(vt: &[u64], n: usize, t: &[u64], i: usize) -> bool
     requires { ⌜ (n ≤ tests.mostRows) × (i ≤ tests.mostRows) ⌝ }
     ensures { λ r. ⌜ r ≡ feed.begins (rows n (layout.vcpuRow (now (vt .entry)))) (now (t .entry)) i ⌝ }
 {
-    let last = host_of(vt, n, t, before(i));
+    let last = host_of(vt, n, t, prior(i));
     (i == 0) | !(host_of(vt, n, t, i) == last)
 }
 

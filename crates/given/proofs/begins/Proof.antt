@@ -1,11 +1,12 @@
 use borrow.Author.Needs.{needs}
-use Rattle.given.specs.Feed as feed
+use Rattle.given.specs.RowLaws.{begins-told}
 use Rattle.given.proofs.begins.Statement.{statement}
 use Rattle.given.proofs.begins.Tie as tie
 
 returns : tie.Need-returns
-unfolding feed.begins
-returns c = cc
+returns c =
+    let x = c .before .before .before .before .before .args in
+    begins-told _ (x .t .now) (x .i) (c .before .before .prior .ensures) (c .before .host-of .ensures) (c .host-of2 .ensures)
 
 pub begins-spec : {M : Type 1} → statement M
 begins-spec = tie.close (tie.spec (λ c κs. search needs) (λ c κs. search needs) (λ c κs. search needs) returns)

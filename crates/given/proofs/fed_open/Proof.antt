@@ -1,5 +1,4 @@
-use Rattle.model.specs.Line.{shape}
-use Rattle.model.specs.Line.{size, numsOf}
+use Rattle.model.specs.Line.{shape, size, numsOf}
 use Rattle.tables.specs.Layout.{openRow}
 use Rattle.given.specs.Feed.{feeds, openLines}
 use borrow.Author.Needs.{needs}

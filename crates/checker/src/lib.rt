@@ -1,0 +1,1 @@
+// The whole plan, worked out once into number slices (specs/Store).
