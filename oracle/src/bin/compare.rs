@@ -52,7 +52,9 @@ fn main() -> ExitCode {
 fn run(args: &[String]) -> Result<u64, String> {
     let words: Vec<&str> = args.iter().map(|a| a.as_str()).collect();
     match words.as_slice() {
-        [what @ ("verdict" | "reading"), seed, count, save, program @ ..] if !program.is_empty() => {
+        [what @ ("verdict" | "reading"), seed, count, save, program @ ..]
+            if !program.is_empty() =>
+        {
             let seed = number(seed)?;
             all(number(count)?, save, program, &|index| Case {
                 name: format!("{}-{}-{}", what, seed, index),
@@ -73,27 +75,27 @@ fn run(args: &[String]) -> Result<u64, String> {
                 }
             })
         }
-        ["plans", folder, save, program @ ..] if !program.is_empty() => {
-            let files = entries(folder)?;
-            all(files.len() as u64, save, program, &|index| {
-                let file = files.get(index as usize).cloned().unwrap_or_default();
-                Case {
-                    name: named(&file),
-                    reading: false,
-                    plan: Some(std::fs::read(&file).unwrap_or_default()),
-                    events: None,
+        [what @ ("plans" | "events"), folder, save, program @ ..] if !program.is_empty() => {
+            let stored = entries(folder)?;
+            all(stored.len() as u64, save, program, &|index| {
+                let path = stored.get(index as usize).cloned().unwrap_or_default();
+                let name = named(&path);
+                if *what == "plans" {
+                    let plan = Some(std::fs::read(&path).unwrap_or_default());
+                    return Case {
+                        name,
+                        reading: false,
+                        plan,
+                        events: None,
+                    };
                 }
-            })
-        }
-        ["events", folder, save, program @ ..] if !program.is_empty() => {
-            let folders = entries(folder)?;
-            all(folders.len() as u64, save, program, &|index| {
-                let dir = folders.get(index as usize).cloned().unwrap_or_default();
+                let plan = std::fs::read(path.join("plan.tsv")).ok();
+                let events = Some(std::fs::read(path.join("events.tsv")).unwrap_or_default());
                 Case {
-                    name: named(&dir),
+                    name,
                     reading: false,
-                    plan: std::fs::read(dir.join("plan.tsv")).ok(),
-                    events: Some(std::fs::read(dir.join("events.tsv")).unwrap_or_default()),
+                    plan,
+                    events,
                 }
             })
         }
@@ -108,8 +110,7 @@ fn number(text: &str) -> Result<u64, String> {
 
 /// What a folder holds, in order of name.
 fn entries(folder: &str) -> Result<Vec<PathBuf>, String> {
-    let listed =
-        std::fs::read_dir(folder).map_err(|e| format!("compare: {}: {}\n", folder, e))?;
+    let listed = std::fs::read_dir(folder).map_err(|e| format!("compare: {}: {}\n", folder, e))?;
     let mut found: Vec<PathBuf> = listed.filter_map(|e| e.ok()).map(|e| e.path()).collect();
     found.sort();
     if found.is_empty() {
@@ -192,7 +193,11 @@ fn one(case: &Case, save: &str, program: &[&str], thread: u64) -> Result<bool, S
             std::fs::write(&file, bytes).map_err(|e| format!("compare: {}\n", e))?;
         }
     }
-    let got = printed(program, case.events.as_ref().map(|_| place.as_path()), &input)?;
+    let got = printed(
+        program,
+        case.events.as_ref().map(|_| place.as_path()),
+        &input,
+    )?;
     if case.events.is_some() {
         let _ = std::fs::remove_dir_all(&place);
     }
