@@ -35,7 +35,8 @@ use Rattle.lockboard.specs.declared.Event.the-variants.{Ask, Free, Use}
 use Rattle.lockboard.specs.declared.Next.the-variants.{To}
 use Rattle.lockboard.specs.declared.BoardAnswer.{BoardAnswer}
 use Rattle.lockboard.specs.declared.BoardAnswer.the-variants.{Granted, Waits, Freed, Left, Refused}
-use Rattle.lockboard.specs.Facts.{factsOf, hasTask, lists}
+use Rattle.figures.specs.Named.{hasTask}
+use Rattle.lockboard.specs.Facts.{factsOf, lists}
 use Rattle.lockboard.specs.Board.{fresh, holdsGlobal, localWaiter, isBusy, supply, mustStop, settled, passes, askFault, mayHave, asked, freeFault, waiterV, waiterN, nextGlobal, freedGlobal, localN, nextLocal, freedLocal, freed, useFault, used, topFault, topped, showFault, heldGlobal, heldLocal, raisedBy, taskPriority, vcpuPriority, step}
 use Rattle.lockboard.specs.Events.{answers, eventOf, onLine, lineAnswers, answersText, boardText}
 

@@ -1,5 +1,6 @@
 pub mod System
 pub mod Figures
+pub mod Named
 pub mod Answers
 pub mod Demands
 pub mod Tabled

@@ -102,7 +102,7 @@ fn row_local(r: PlanRecord, vt: &[u64], mt: &[u64], ts: &[u64], a: usize, v: u64
 }
 
 // Is m a mutex that is local to v?
-fn is_local(r: PlanRecord, vt: &[u64], mt: &[u64], ts: &[u64], v: u64, m: u64) -> bool
+pub fn is_local(r: PlanRecord, vt: &[u64], mt: &[u64], ts: &[u64], v: u64, m: u64) -> bool
     requires { ⌜ Fit r (now vt) (now mt) (now ts) ⌝ }
     ensures { λ x. ⌜ x ≡ localTo (systemIn r (now (vt .entry)) (now (mt .entry)) (now (ts .entry)) .mutexes) v m ⌝ }
 {
@@ -221,8 +221,16 @@ pub fn lengths_of(r: PlanRecord, vt: &[u64], mt: &[u64], ts: &[u64], i: usize) -
     task_cell(r, vt, mt, ts, i, 3) + s
 }
 
+// Is task row i the task (v, n)?
+pub fn row_task(r: PlanRecord, vt: &[u64], mt: &[u64], ts: &[u64], i: usize, v: u64, n: u64) -> bool
+    requires { ⌜ Fit r (now vt) (now mt) (now ts) × (i < r .tasks) ⌝ }
+    ensures { λ x. ⌜ x ≡ (eqb (taskRow (now (ts .entry)) i .v) v && eqb (taskRow (now (ts .entry)) i .n) n) ⌝ }
+{
+    (task_cell(r, vt, mt, ts, i, 0) == v) & (task_cell(r, vt, mt, ts, i, 1) == n)
+}
+
 // Does task i lock m?
-fn locks_it(r: PlanRecord, vt: &[u64], mt: &[u64], ts: &[u64], i: usize, m: u64) -> bool
+pub fn locks_it(r: PlanRecord, vt: &[u64], mt: &[u64], ts: &[u64], i: usize, m: u64) -> bool
     requires { ⌜ Fit r (now vt) (now mt) (now ts) × (i < r .tasks) ⌝ }
     ensures { λ x. ⌜ x ≡ locksIt m (taskRow (now (ts .entry)) i) ⌝ }
 {

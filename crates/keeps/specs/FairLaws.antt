@@ -22,6 +22,7 @@ use Rattle.model.specs.LookupLaws.{of-has, reach-has}
 use Rattle.figures.specs.System.{system}
 use Rattle.figures.specs.Figures.{vcpuAt, noVcpu, longestGlobal, ght, overrunBy, overrunOf, locksIt, ceiling}
 use Rattle.lockboard.specs.Facts.{factsOf}
+use Rattle.figures.specs.Named as named
 use Rattle.lockboard.specs.Facts as facts
 use Rattle.keeps.specs.Fair.{Fair, InV, InN, InM}
 use Rattle.keeps.specs.Cases.{never, clash, is-false, either-of}
@@ -185,8 +186,8 @@ module _ (p : Plan) (h : Valid p) where
       none WithoutOverrun = refl
 
   -- a task of the plan, with what its row says
-  fair-task : (v n : ℕ) → facts.hasTask (system p) v n ≡ true → (hasVcpu (p .vcpus) v ≡ true) × InN n
-  unfolding facts.hasTask
+  fair-task : (v n : ℕ) → named.hasTask (system p) v n ≡ true → (hasVcpu (p .vcpus) v ≡ true) × InN n
+  unfolding named.hasTask
   fair-task v n e =
       let r = any-row (λ k. eqb (k .v) v && eqb (k .n) n) (TaskFair (p .vcpus) (p .mutexes)) (tasksOf (p .sections)) e (tasks-fair p h) in
       let k = r .row in
@@ -216,8 +217,8 @@ module _ (p : Plan) (h : Valid p) where
             (subst (λ x. global (p .mutexes) x ≡ false → localTo (p .mutexes) (k .v) x ≡ true) em (q .has .own)),
       )
 
-  fair-sheet-task : (v n m : ℕ) → facts.lists (system p) v n m ≡ true → facts.hasTask (system p) v n ≡ true
-  unfolding facts.lists facts.hasTask
+  fair-sheet-task : (v n m : ℕ) → facts.lists (system p) v n m ≡ true → named.hasTask (system p) v n ≡ true
+  unfolding facts.lists named.hasTask
   fair-sheet-task v n m e = any-weaker (tasksOf (p .sections)) (λ k. both-left (eqb (k .v) v && eqb (k .n) n) (locksIt m k)) e
 
   fair-ceiling : (v n m : ℕ) → facts.lists (system p) v n m ≡ true → n ≤ ceiling (system p) m

@@ -10,6 +10,7 @@ use Rattle.model.specs.Lookup as lookup
 use Rattle.figures.specs.System.{System}
 use Rattle.figures.specs.Figures.{vcpuAt, overrunOf, locksIt}
 use Rattle.figures.specs.Figures as figures
+use Rattle.figures.specs.Named as named
 
 pub record Facts : Type 0 where
   pub policy : Policy
@@ -27,9 +28,6 @@ pub record Facts : Type 0 where
   pub localTo : ℕ → ℕ → Bool
   pub ceiling : ℕ → ℕ
 
-unfoldable pub hasTask : System → ℕ → ℕ → Bool
-hasTask s v n = any (λ k. eqb (k .v) v && eqb (k .n) n) (s .tasks)
-
 unfoldable pub lists : System → ℕ → ℕ → ℕ → Bool
 lists s v n m = any (λ k. (eqb (k .v) v && eqb (k .n) n) && locksIt m k) (s .tasks)
 
@@ -41,7 +39,7 @@ factsOf s = record {
   hasVcpu = λ v. lookup.hasVcpu (s .vcpus) v;
   budget = λ v. vcpuAt s v .budget;
   overrun = λ v. overrunOf s v;
-  hasTask = λ v n. hasTask s v n;
+  hasTask = λ v n. named.hasTask s v n;
   lists = λ v n m. lists s v n m;
   hasMutex = λ m. lookup.hasMutex (s .mutexes) m;
   global = λ m. lookup.global (s .mutexes) m;

@@ -24,7 +24,8 @@ use Rattle.model.specs.Plan.{Plan}
 use Rattle.model.specs.Valid.{Valid}
 use Rattle.figures.specs.System.{System, system}
 use Rattle.figures.specs.Figures.{vcpuAt, ght, overrunBy, overrunOf, ceiling}
-use Rattle.lockboard.specs.Facts.{hasTask, lists, factsOf}
+use Rattle.figures.specs.Named.{hasTask}
+use Rattle.lockboard.specs.Facts.{lists, factsOf}
 use Rattle.lockboard.specs.View.{atOverrun, atOwner, atCeiling, atTask, atLists, viewLength, globalOwner, isV, isN, isM, factsIn}
 use Rattle.lockboard.specs.Board.{seat}
 use Rattle.keeps.specs.Fair.{Fair}

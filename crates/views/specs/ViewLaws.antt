@@ -19,7 +19,8 @@ use Rattle.model.specs.Lookup as lookup
 use Rattle.model.specs.Valid.{Valid}
 use Rattle.figures.specs.System.{System, system}
 use Rattle.figures.specs.Figures.{vcpuAt, overrunOf, locksIt, ceiling}
-use Rattle.lockboard.specs.Facts.{hasTask, lists, factsOf}
+use Rattle.figures.specs.Named.{hasTask}
+use Rattle.lockboard.specs.Facts.{lists, factsOf}
 use Rattle.lockboard.specs.View.{atOverrun, atOwner, atCeiling, atTask, atLists, viewLength, globalOwner, isV, isN, isM, ownerAt, factsIn}
 use Rattle.lockboard.specs.Board.{seat}
 use Rattle.keeps.specs.Fair.{Fair}

@@ -9,7 +9,8 @@ use Rattle.model.specs.Limits.{maxV, maxM, maxN}
 use Rattle.model.specs.Lookup.{global, localTo}
 use Rattle.figures.specs.System.{System}
 use Rattle.figures.specs.Figures.{vcpuAt, overrunOf, ceiling}
-use Rattle.lockboard.specs.Facts.{hasTask, lists}
+use Rattle.figures.specs.Named.{hasTask}
+use Rattle.lockboard.specs.Facts.{lists}
 use Rattle.lockboard.specs.View.{globalOwner}
 
 -- 1 where the test holds, else 0

@@ -1,1 +1,211 @@
-// A plan's facts in one list of numbers, as the board's code looks them up: definitions and laws, in specs/.
+// A plan's view: what the board asks of it, in one list of numbers.
+use model::OverrunChoice;
+use tables::PlanRecord;
+ghost use mathlib.Core.Path.{_≡_};
+ghost use mathlib.Core.Bool.{_&&_};
+ghost use Prim.Native.Nat.{_<_, _≤_};
+ghost use lib.Dec.{eqb};
+ghost use lib.ListN.{length, getD, take};
+ghost use Rattle.laws.specs.Choice.{when};
+ghost use Rattle.laws.specs.Range.{highest};
+ghost use Rattle.laws.specs.Rows.{Is};
+ghost use Rattle.model.specs.Lookup.{isLocalTo, localTo};
+ghost use Rattle.tables.specs.Layout.{cell, mutexRow, taskRow};
+ghost use Rattle.figures.specs.Tabled.{Fit, systemIn};
+ghost use Rattle.figures.specs.Figures.{vcpuAt, longestGlobal, ght, overrunBy, overrunOf, locksIt};
+ghost use Rattle.figures.specs.Named.{hasTask};
+ghost use Rattle.lockboard.specs.Facts.{lists};
+ghost use Rattle.views.specs.ViewOf.{bit, ownerOf, viewOf};
+
+// The budget of VCPU v, 0 where there is no such VCPU.
+fn budget_of(r: PlanRecord, vt: &[u64], mt: &[u64], ts: &[u64], v: u64) -> u64
+    requires { ⌜ Fit r (now vt) (now mt) (now ts) ⌝ }
+    ensures { λ x. ⌜ x ≡ vcpuAt (systemIn r (now (vt .entry)) (now (mt .entry)) (now (ts .entry))) v .budget ⌝ }
+{
+    let n = r.vcpus;
+    let mut a = 0;
+    while a < n {
+        let x = figures::vcpu_cell(r, vt, mt, ts, a, 0);
+        if x == v {
+            return figures::vcpu_cell(r, vt, mt, ts, a, 3);
+        }
+        a += 1;
+    }
+    0
+}
+
+// What task h adds to the ght of VCPU v.
+fn ght_at(r: PlanRecord, vt: &[u64], mt: &[u64], ts: &[u64], v: u64, h: usize) -> u64
+    requires { ⌜ Fit r (now vt) (now mt) (now ts) × (h < r .tasks) ⌝ }
+    ensures { λ x. ⌜ Is x (when (eqb (taskRow (now (ts .entry)) h .v) v) (longestGlobal (systemIn r (now (vt .entry)) (now (mt .entry)) (now (ts .entry))) (taskRow (now (ts .entry)) h))) 1000000 ⌝ }
+{
+    if figures::task_cell(r, vt, mt, ts, h, 0) == v {
+        figures::longest_global(r, vt, mt, ts, h)
+    } else {
+        0
+    }
+}
+
+// The ght of VCPU v.
+fn ght_of(r: PlanRecord, vt: &[u64], mt: &[u64], ts: &[u64], v: u64) -> u64
+    requires { ⌜ Fit r (now vt) (now mt) (now ts) ⌝ }
+    ensures { λ x. ⌜ Is x (ght (systemIn r (now (vt .entry)) (now (mt .entry)) (now (ts .entry))) v) 64000000 ⌝ }
+{
+    let n = r.tasks;
+    let mut s: u64 = 0;
+    let mut h = 0;
+    while h < n {
+        let x = ght_at(r, vt, mt, ts, v, h);
+        s = s + x;
+        h += 1;
+    }
+    s
+}
+
+// The overrun of a VCPU with this ght.
+fn overrun_by(overrun: OverrunChoice, g: u64) -> u64
+    ensures { λ x. ⌜ x ≡ overrunBy overrun g ⌝ }
+{
+    match overrun {
+        OverrunChoice::WithOverrun => g,
+        OverrunChoice::WithoutOverrun => 0,
+    }
+}
+
+// The overrun of VCPU v.
+fn overrun_of(r: PlanRecord, vt: &[u64], mt: &[u64], ts: &[u64], v: u64) -> u64
+    requires { ⌜ Fit r (now vt) (now mt) (now ts) ⌝ }
+    ensures { λ x. ⌜ x ≡ overrunOf (systemIn r (now (vt .entry)) (now (mt .entry)) (now (ts .entry))) v ⌝ }
+{
+    let o = r.overrun;
+    overrun_by(o, ght_of(r, vt, mt, ts, v))
+}
+
+// The VCPU that m is local to, 0 for none.
+fn local_owner(r: PlanRecord, vt: &[u64], mt: &[u64], ts: &[u64], m: u64) -> u64
+    requires { ⌜ Fit r (now vt) (now mt) (now ts) ⌝ }
+    ensures { λ x. ⌜ x ≡ highest 16 (λ v. localTo (systemIn r (now (vt .entry)) (now (mt .entry)) (now (ts .entry)) .mutexes) v m) ⌝ }
+{
+    let mut v: u64 = 16;
+    while 0 < v {
+        if figures::is_local(r, vt, mt, ts, v, m) {
+            return v;
+        }
+        v -= 1;
+    }
+    0
+}
+
+// The owner of mutex m.
+fn owner_of(r: PlanRecord, vt: &[u64], mt: &[u64], ts: &[u64], m: u64) -> u64
+    requires { ⌜ Fit r (now vt) (now mt) (now ts) ⌝ }
+    ensures { λ x. ⌜ x ≡ ownerOf (systemIn r (now (vt .entry)) (now (mt .entry)) (now (ts .entry))) m ⌝ }
+{
+    if figures::is_global(r, vt, mt, ts, m) {
+        17
+    } else {
+        local_owner(r, vt, mt, ts, m)
+    }
+}
+
+// Is there a task (v, n)?
+fn has_task(r: PlanRecord, vt: &[u64], mt: &[u64], ts: &[u64], v: u64, n: u64) -> bool
+    requires { ⌜ Fit r (now vt) (now mt) (now ts) ⌝ }
+    ensures { λ x. ⌜ x ≡ hasTask (systemIn r (now (vt .entry)) (now (mt .entry)) (now (ts .entry))) v n ⌝ }
+{
+    let e = r.tasks;
+    let mut a = 0;
+    while a < e {
+        if figures::row_task(r, vt, mt, ts, a, v, n) {
+            return true;
+        }
+        a += 1;
+    }
+    false
+}
+
+// Is task row i the task (v, n), and does it lock m?
+fn row_lists(
+    r: PlanRecord,
+    vt: &[u64],
+    mt: &[u64],
+    ts: &[u64],
+    i: usize,
+    v: u64,
+    n: u64,
+    m: u64,
+) -> bool
+    requires { ⌜ Fit r (now vt) (now mt) (now ts) × (i < r .tasks) ⌝ }
+    ensures { λ x. ⌜ x ≡ ((eqb (taskRow (now (ts .entry)) i .v) v && eqb (taskRow (now (ts .entry)) i .n) n) && locksIt m (taskRow (now (ts .entry)) i)) ⌝ }
+{
+    figures::row_task(r, vt, mt, ts, i, v, n) & figures::locks_it(r, vt, mt, ts, i, m)
+}
+
+// Does the sheet of task (v, n) lock m?
+fn lists_it(r: PlanRecord, vt: &[u64], mt: &[u64], ts: &[u64], v: u64, n: u64, m: u64) -> bool
+    requires { ⌜ Fit r (now vt) (now mt) (now ts) ⌝ }
+    ensures { λ x. ⌜ x ≡ lists (systemIn r (now (vt .entry)) (now (mt .entry)) (now (ts .entry))) v n m ⌝ }
+{
+    let e = r.tasks;
+    let mut a = 0;
+    while a < e {
+        if row_lists(r, vt, mt, ts, a, v, n, m) {
+            return true;
+        }
+        a += 1;
+    }
+    false
+}
+
+// 1 where the test holds, else 0.
+fn bit_of(t: bool) -> u64
+    ensures { λ x. ⌜ x ≡ bit t ⌝ }
+{
+    if t { 1 } else { 0 }
+}
+
+// Number k of the view.
+fn view_cell(r: PlanRecord, vt: &[u64], mt: &[u64], ts: &[u64], k: u64) -> u64
+    requires { ⌜ Fit r (now vt) (now mt) (now ts) × (k < 4320) ⌝ }
+    ensures { λ x. ⌜ x ≡ getD (viewOf (systemIn r (now (vt .entry)) (now (mt .entry)) (now (ts .entry)))) k 0 ⌝ }
+{
+    if k < 16 {
+        return budget_of(r, vt, mt, ts, k + 1);
+    }
+    if k < 32 {
+        return overrun_of(r, vt, mt, ts, k - 15);
+    }
+    if k < 64 {
+        return owner_of(r, vt, mt, ts, k - 31);
+    }
+    if k < 96 {
+        return figures::ceiling_of(r, vt, mt, ts, k - 63);
+    }
+    if k < 224 {
+        return bit_of(has_task(r, vt, mt, ts, (k - 96) / 8 + 1, (k - 96) % 8 + 1));
+    }
+    bit_of(lists_it(
+        r,
+        vt,
+        mt,
+        ts,
+        (k - 224) / 256 + 1,
+        (k - 224) / 32 % 8 + 1,
+        (k - 224) % 32 + 1,
+    ))
+}
+
+// Writes the view of the plan in the tables.
+pub fn fill_view(r: PlanRecord, vt: &[u64], mt: &[u64], ts: &[u64], view: &mut [u64])
+    requires { ⌜ Fit r (now vt) (now mt) (now ts) × (4320 ≤ length (now view)) ⌝ }
+    ensures { λ out. ⌜ take 4320 (now (view .exit)) ≡ viewOf (systemIn r (now (vt .entry)) (now (mt .entry)) (now (ts .entry))) ⌝ }
+{
+    let mut i = 0;
+    let mut k: u64 = 0;
+    while k < 4320 {
+        let x = view_cell(r, vt, mt, ts, k);
+        view[i] = x;
+        i += 1;
+        k += 1;
+    }
+}

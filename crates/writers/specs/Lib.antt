@@ -1,3 +1,4 @@
+pub mod Into
 pub mod Wrote
 pub mod WroteLaws
 pub mod Lines

@@ -13,6 +13,12 @@ ghost use Rattle.listing.specs.Listing.{taskFields, waitFields, refusedLine};
 ghost use Rattle.writers.specs.Wrote.{Wrote, Sized};
 ghost use Rattle.writers.specs.Lines.{headText, vcpuText, waitText, taskText, allText, tabbed, rest, numberOr, partsOf, taskParts, answerWord};
 
+// The answer of a call that writes a text into a lent buffer: its size, or a refusal.
+pub enum TextAnswer {
+    Written(usize),
+    Refused(Refusal),
+}
+
 // An answer, taken apart: its word's code, whether it has ticks, these, and its rounds.
 struct Parts {
     code: u64,
@@ -153,7 +159,7 @@ fn tab_choice(out: &mut [u8], c: bool, n: u64, w: &[u8]) -> usize
 }
 
 // Writes a tab and a number.
-fn tab_number(out: &mut [u8], n: u64) -> usize
+pub fn tab_number(out: &mut [u8], n: u64) -> usize
     requires { ⌜ length (tabbed (decimal n)) ≤ length (now out) ⌝ }
     ensures { λ r. ⌜ Wrote (tabbed (decimal n)) (now (out .entry)) (now (out .exit)) r ⌝ }
 {
@@ -180,7 +186,7 @@ fn tab_answer(out: &mut [u8], c: u64) -> usize
 }
 
 // Writes a word, a tab and a number.
-fn word_one(out: &mut [u8], w: &[u8], v: u64) -> usize
+pub fn word_one(out: &mut [u8], w: &[u8], v: u64) -> usize
     requires { ⌜ length (now w ++ tabbed (decimal v)) ≤ length (now out) ⌝ }
     ensures { λ r. ⌜ Wrote (now (w .entry) ++ tabbed (decimal v)) (now (out .entry)) (now (out .exit)) r ⌝ }
 {
@@ -189,7 +195,7 @@ fn word_one(out: &mut [u8], w: &[u8], v: u64) -> usize
 }
 
 // Writes a word and two numbers, each after a tab.
-fn word_two(out: &mut [u8], w: &[u8], v: u64, n: u64) -> usize
+pub fn word_two(out: &mut [u8], w: &[u8], v: u64, n: u64) -> usize
     requires { ⌜ length ((now w ++ tabbed (decimal v)) ++ tabbed (decimal n)) ≤ length (now out) ⌝ }
     ensures { λ r. ⌜ Wrote ((now (w .entry) ++ tabbed (decimal v)) ++ tabbed (decimal n)) (now (out .entry)) (now (out .exit)) r ⌝ }
 {
@@ -198,7 +204,7 @@ fn word_two(out: &mut [u8], w: &[u8], v: u64, n: u64) -> usize
 }
 
 // Writes a line's last field, a number.
-fn last_rest(out: &mut [u8], n: u64) -> usize
+pub fn last_rest(out: &mut [u8], n: u64) -> usize
     requires { ⌜ length (rest (decimal n ∷ [])) ≤ length (now out) ⌝ }
     ensures { λ r. ⌜ Wrote (rest (decimal n ∷ [])) (now (out .entry)) (now (out .exit)) r ⌝ }
 {
