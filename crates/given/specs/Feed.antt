@@ -11,7 +11,7 @@ use Rattle.model.specs.Line.{Item}
 use Rattle.model.specs.Plan.{Vcpu}
 use Rattle.model.specs.Text.{item, vcpuItem, ownedItem, openItem, runItem}
 use Rattle.model.specs.Reading.{fault}
-use Rattle.judge.specs.Coded.{coded, start}
+use Rattle.coded.specs.Coded.{coded, start}
 use Rattle.tables.specs.Layout.{taskWidth, cell, vcpuRow, mutexRow, openRow, lockRow}
 use Rattle.tables.specs.Given.{guestFor, isClear}
 pub use Rattle.given.specs.declared.Run.{Run}

@@ -9,7 +9,7 @@ use native.Mathlib.Omega.{arith}
 use Rattle.model.specs.Line.{Item}
 use Rattle.model.specs.Reading.{fault}
 use Rattle.laws.specs.Rows.{rows}
-use Rattle.judge.specs.Coded.{coded}
+use Rattle.coded.specs.Coded.{coded}
 use Rattle.tables.specs.Given.{isClear, clean}
 use Rattle.given.specs.Feed.{Run, feed, feeds, passing, lined, Fed}
 

@@ -14,7 +14,7 @@ use Rattle.model.specs.declared.OverrunChoice.the-variants.{WithOverrun, Withou
 use Rattle.model.specs.Plan.{Vcpu}
 use Rattle.model.specs.Text.{policyKind, ownedItem}
 use Rattle.model.specs.Text as text
-use Rattle.judge.specs.Coded.{item}
+use Rattle.coded.specs.Coded.{item}
 use Rattle.tables.specs.declared.PlanRecord.{PlanRecord}
 use Rattle.tables.specs.Layout.{mutexWidth, taskWidth, lockWidth, firstLock, cell, ownerOf, mutexRow, lockRow}
 use Rattle.given.specs.Feed.{Run, fresh, feed, feeds, ownerKind, mutexLines, lockLines, hostOf, begins, guestLine, headLines, taskLines, lined}

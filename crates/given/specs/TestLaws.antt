@@ -19,8 +19,8 @@ use Rattle.model.specs.ValidLaws.{passes-valid, valid-passes}
 use Rattle.model.specs.declared.Kind.the-variants.{EndLine}
 use Rattle.model.specs.Line.{Item, shape, size, numsOf}
 use Rattle.model.specs.Text as text
-use Rattle.judge.specs.Coded.{coded, start, item}
-use Rattle.judge.specs.Agrees.{same-passes}
+use Rattle.coded.specs.Coded.{coded, start, item}
+use Rattle.coded.specs.Agrees.{same-passes}
 use Rattle.tables.specs.declared.PlanRecord.{PlanRecord}
 use Rattle.tables.specs.Layout.{Tables, taskWidth, lockWidth, firstLock, cell, vcpuRow}
 use Rattle.tables.specs.Given.{planIn, roomy, zeroFrom, zeroRest, clean, isGiven}

@@ -9,7 +9,7 @@ use Rattle.model.specs.declared.Kind.the-variants.{PlanLine, EndLine}
 use Rattle.model.specs.Limits.{maxV, maxM, maxGuest, maxTasks, maxLocks}
 use Rattle.model.specs.Line.{Item}
 use Rattle.model.specs.Text.{item, policyKind}
-use Rattle.judge.specs.Coded.{coded, start}
+use Rattle.coded.specs.Coded.{coded, start}
 use Rattle.tables.specs.Layout.{Tables, taskWidth, cell, vcpuRow}
 use Rattle.tables.specs.declared.PlanRecord.{PlanRecord}
 use Rattle.tables.specs.Given.{zeroRest, clean}

@@ -1,5 +1,5 @@
 // The test for 9: do tables hold what some accepted plan gives? (specs/Given of the tables; specs/Tests has its tests one by one.)
-use judge::Seen;
+use coded::Seen;
 use judge::fault_of;
 use judge::ready;
 use judge::seen_after;
@@ -19,7 +19,7 @@ ghost use lib.ListN.{length};
 ghost use Rattle.laws.specs.Rows.{rows};
 ghost use Rattle.model.specs.Limits.{maxLocks};
 ghost use Rattle.model.specs.Text.{policyKind};
-ghost use Rattle.judge.specs.Coded.{item};
+ghost use Rattle.coded.specs.Coded.{item};
 ghost use Rattle.tables.specs.Layout as layout;
 ghost use Rattle.tables.specs.Given as tables;
 ghost use Rattle.given.specs.Feed as feed;

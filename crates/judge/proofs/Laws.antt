@@ -14,7 +14,8 @@ use Rattle.model.specs.declared.Refusal.the-variants.{Shape, Number, Range, Ord
 use Rattle.model.specs.Refusals.{unless}
 use Rattle.model.specs.Rules.{phase, within, follows, vcpuFits}
 use Rattle.model.specs.Reading.{fault}
-use Rattle.judge.specs.Coded.{Seen, fits, ranged, reached, vcpuFault, lockFault, ruled, seenBy, coded}
+use Rattle.coded.specs.declared.Seen.{Seen}
+use Rattle.coded.specs.Coded.{fits, ranged, reached, vcpuFault, lockFault, ruled, seenBy, coded}
 use Rattle.model.specs.Line.{size, numsOf}
 
 pub told : {A : Type 0} (f : Kind → A) {k q : Kind} {r : A} → k ≡ q → r ≡ f q → r ≡ f k

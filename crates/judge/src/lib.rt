@@ -1,5 +1,23 @@
 // One judge of a plan's items, a kind and its numbers: what is wrong with an item after those before it, and what is seen after it.
-// What it means stands in specs/Coded; that it agrees with the rules of the model, in specs/Agrees.
+// What it means stands in the crate coded.
+use coded::Seen;
+use coded::BAD;
+use coded::ENDED;
+use coded::GLOBAL;
+use coded::GUESTS;
+use coded::MAX_CORE;
+use coded::MAX_GUEST;
+use coded::MAX_LENGTH;
+use coded::MAX_LOCKS;
+use coded::MAX_M;
+use coded::MAX_N;
+use coded::MAX_PERIOD;
+use coded::MAX_TASKS;
+use coded::MAX_V;
+use coded::MUTEXES;
+use coded::NOWHERE;
+use coded::OPENINGS;
+use coded::VCPUS;
 use model::Fault;
 use model::Kind;
 use model::Refusal;
@@ -11,85 +29,9 @@ ghost use Rattle.model.specs.Rules as rules;
 ghost use Rattle.model.specs.Line.{shape};
 ghost use Rattle.model.specs.Line as line;
 ghost use Rattle.model.specs.Reading.{fault};
-ghost use Rattle.judge.specs.Coded as coded;
-ghost use Rattle.judge.specs.Coded.{item};
+ghost use Rattle.coded.specs.Coded as coded;
+ghost use Rattle.coded.specs.Coded.{item};
 ghost use Rattle.model.specs.Line.{numsOf};
-
-// The limits of document 01 (specs/Limits of the model): v 1 to 16.
-const MAX_V: u64 = 16;
-
-// Guest 1 to 4.
-const MAX_GUEST: u64 = 4;
-
-// Core 0 to 3.
-const MAX_CORE: u64 = 3;
-
-// m 1 to 32.
-const MAX_M: u64 = 32;
-
-// n 1 to 8.
-const MAX_N: u64 = 8;
-
-// Every period 1 to 1,000,000.
-const MAX_PERIOD: u64 = 1000000;
-
-// Run 0 to 1,000,000, lock 1 to 1,000,000.
-const MAX_LENGTH: u64 = 1000000;
-
-// At most 64 tasks in a plan.
-const MAX_TASKS: u64 = 64;
-
-// At most 8 locks in a task.
-const MAX_LOCKS: u64 = 8;
-
-// A number field that is not written as it should be says this or more.
-const BAD: u64 = 10000000;
-
-// Places by v, one for each number from 0 to its limit, so that a number is its own place.
-const VCPUS: usize = MAX_V as usize + 1;
-
-// Places by guest.
-const GUESTS: usize = MAX_GUEST as usize + 1;
-
-// Places by m.
-const MUTEXES: usize = MAX_M as usize + 1;
-
-// Places by m and guest, from 1 to their limits.
-const OPENINGS: usize = MAX_M as usize * MAX_GUEST as usize;
-
-// A place past the last opening.
-const NOWHERE: u64 = MAX_M * MAX_GUEST;
-
-// The owner of a global mutex, above every v; a local mutex has its v, an undeclared one 0.
-const GLOBAL: u64 = MAX_V + 1;
-
-// The phase after `end`.
-const ENDED: u64 = 10;
-
-// What is seen after some items.
-pub struct Seen {
-    // By the last line (specs/Rules of the model).
-    pub phase: u64,
-    // By v: the guest of the VCPU, 0 where it is undeclared. The last v.
-    pub guests: [u8; VCPUS],
-    pub vcpu: u64,
-    // By guest: 1 where it has a VCPU.
-    pub hosted: [u8; GUESTS],
-    // By m: the owner. The last m.
-    pub owners: [u8; MUTEXES],
-    pub mutex: u64,
-    // By m and guest: 1 where it is opened. The last pair.
-    pub opens: [u8; OPENINGS],
-    pub shared: u64,
-    pub sharer: u64,
-    // The section's guest, and v and n of its last task.
-    pub guest: u64,
-    pub v: u64,
-    pub n: u64,
-    // The tasks of the plan, and the locks of the last task.
-    pub tasks: u64,
-    pub locks: u64,
-}
 
 // A byte as a number.
 fn wide(x: u8) -> u64

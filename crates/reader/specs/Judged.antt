@@ -12,8 +12,8 @@ use Rattle.model.specs.Reading.{Verdict, Faultless, FirstBad, judge}
 use Rattle.tables.specs.declared.PlanRecord.{PlanRecord}
 use Rattle.tables.specs.Layout.{Tables, vcpuWidth, mutexWidth, openWidth, taskWidth}
 use Rattle.lines.specs.declared.Said.{Said}
-use Rattle.judge.specs.declared.Seen.{Seen}
-use Rattle.judge.specs.Coded.{coded}
+use Rattle.coded.specs.declared.Seen.{Seen}
+use Rattle.coded.specs.Coded.{coded}
 use Rattle.filler.specs.declared.Tally.{Tally}
 use Rattle.filler.specs.Fill.{recordIn, tallied, blank, filledBy}
 use Rattle.reader.specs.Into.{PlanAnswer, Accepted, Refused}

@@ -32,10 +32,10 @@ use Rattle.lines.specs.declared.Said.{Said}
 use Rattle.lines.specs.Said.{saidOf, saidItem}
 use Rattle.lines.specs.Said as said
 use Rattle.lines.specs.SaidLaws.{said-item}
-use Rattle.judge.specs.declared.Seen.{Seen}
-use Rattle.judge.specs.Coded.{coded, start}
-use Rattle.judge.specs.Coded as code
-use Rattle.judge.specs.Agrees.{same-reading}
+use Rattle.coded.specs.declared.Seen.{Seen}
+use Rattle.coded.specs.Coded.{coded, start}
+use Rattle.coded.specs.Coded as code
+use Rattle.coded.specs.Agrees.{same-reading}
 use Rattle.filler.specs.declared.Tally.{Tally}
 use Rattle.filler.specs.Fill.{recordIn, tallied, tallyAfter, blank, filledBy, vcpuPut, mutexPut, openPut, taskPut}
 use Rattle.filler.specs.LoopLaws.{line-next, line-last}

@@ -1,6 +1,6 @@
 // The reader: any bytes into lent tables, or a refusal that changes nothing. What it answers stands in specs/Into.
 use filler::Tally;
-use judge::Seen;
+use coded::Seen;
 use lines::Said;
 use model::Fault;
 use model::Found;
@@ -14,7 +14,7 @@ ghost use Rattle.model.specs.Limits.{lf};
 ghost use Rattle.model.specs.Reading.{faultOf, nextOf};
 ghost use Rattle.tables.specs.Given.{isClear};
 ghost use Rattle.lines.specs.Said.{saidItem};
-ghost use Rattle.judge.specs.Coded as coded;
+ghost use Rattle.coded.specs.Coded as coded;
 ghost use Rattle.filler.specs.Fill as fills;
 ghost use Rattle.reader.specs.Into.{planAnswer, tablesAfter};
 ghost use Rattle.reader.specs.Judged as judged;

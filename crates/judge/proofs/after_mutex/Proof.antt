@@ -1,4 +1,4 @@
-use Rattle.judge.specs.Coded.{afterMutex}
+use Rattle.coded.specs.Coded.{afterMutex}
 use borrow.Author.Needs.{needs}
 use Rattle.judge.proofs.after_mutex.Statement.{statement}
 use Rattle.judge.proofs.after_mutex.Tie as tie

@@ -1,4 +1,4 @@
-use Rattle.judge.specs.Coded.{afterOpen, byte}
+use Rattle.coded.specs.Coded.{afterOpen, byte}
 use borrow.Author.Needs.{needs}
 use Rattle.judge.proofs.after_open.Statement.{statement}
 use Rattle.judge.proofs.after_open.Tie as tie

@@ -1,4 +1,4 @@
-use Rattle.judge.specs.Coded.{afterVcpu, byte}
+use Rattle.coded.specs.Coded.{afterVcpu, byte}
 use borrow.Author.Needs.{needs}
 use Rattle.judge.proofs.after_vcpu.Statement.{statement}
 use Rattle.judge.proofs.after_vcpu.Tie as tie

@@ -1,4 +1,4 @@
-use Rattle.judge.specs.Coded.{bump}
+use Rattle.coded.specs.Coded.{bump}
 use borrow.Author.Tests.{lt-ltb, le-ltb}
 use borrow.Author.Needs.{needs}
 use Rattle.judge.proofs.bump.Statement.{statement}

@@ -1,4 +1,4 @@
-use Rattle.judge.specs.Coded.{byte}
+use Rattle.coded.specs.Coded.{byte}
 use borrow.Author.Tests.{lt-ltb, le-ltb}
 use borrow.Author.Needs.{needs}
 use Rattle.judge.proofs.byte.Statement.{statement}

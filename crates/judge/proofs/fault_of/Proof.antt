@@ -1,4 +1,4 @@
-use Rattle.judge.specs.Coded.{item}
+use Rattle.coded.specs.Coded.{item}
 use Rattle.judge.proofs.Laws.{fault-told}
 use borrow.Author.Needs.{needs}
 use Rattle.judge.proofs.fault_of.Statement.{statement}

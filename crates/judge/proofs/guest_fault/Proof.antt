@@ -1,4 +1,4 @@
-use Rattle.judge.specs.Coded.{guestFault}
+use Rattle.coded.specs.Coded.{guestFault}
 use borrow.Author.Needs.{needs}
 use Rattle.judge.proofs.guest_fault.Statement.{statement}
 use Rattle.judge.proofs.guest_fault.Tie as tie

@@ -1,4 +1,4 @@
-use Rattle.judge.specs.Coded.{hostFault}
+use Rattle.coded.specs.Coded.{hostFault}
 use borrow.Author.Needs.{needs}
 use Rattle.judge.proofs.host_fault.Statement.{statement}
 use Rattle.judge.proofs.host_fault.Tie as tie

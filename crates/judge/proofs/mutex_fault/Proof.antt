@@ -1,4 +1,4 @@
-use Rattle.judge.specs.Coded.{mutexFault}
+use Rattle.coded.specs.Coded.{mutexFault}
 use borrow.Author.Needs.{needs}
 use Rattle.judge.proofs.mutex_fault.Statement.{statement}
 use Rattle.judge.proofs.mutex_fault.Tie as tie

@@ -1,4 +1,4 @@
-use Rattle.judge.specs.Coded.{openFault}
+use Rattle.coded.specs.Coded.{openFault}
 use borrow.Author.Needs.{needs}
 use Rattle.judge.proofs.open_fault.Statement.{statement}
 use Rattle.judge.proofs.open_fault.Tie as tie

@@ -1,4 +1,4 @@
-use Rattle.judge.specs.Coded.{placed}
+use Rattle.coded.specs.Coded.{placed}
 use mathlib.Core.Path.{refl}
 use Rattle.judge.proofs.placed.Statement.{statement}
 use Rattle.judge.proofs.placed.Tie as tie

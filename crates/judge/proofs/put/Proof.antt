@@ -1,7 +1,7 @@
 use lib.Seq.{set-out}
 use mathlib.Core.Path.{sym}
 use native.Mathlib.Omega.{arith}
-use Rattle.judge.specs.Coded.{byte}
+use Rattle.coded.specs.Coded.{byte}
 use borrow.Author.Needs.{needs}
 use Rattle.judge.proofs.put.Statement.{statement}
 use Rattle.judge.proofs.put.Tie as tie

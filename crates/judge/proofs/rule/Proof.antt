@@ -1,6 +1,6 @@
 use mathlib.Core.Path.{refl}
 use Rattle.model.specs.Line.{shape}
-use Rattle.judge.specs.Coded.{ruled}
+use Rattle.coded.specs.Coded.{ruled}
 use Rattle.model.specs.Line.{size, numsOf}
 use Rattle.judge.proofs.Laws.{rule-told}
 use borrow.Author.Needs.{needs}

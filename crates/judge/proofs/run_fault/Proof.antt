@@ -1,4 +1,4 @@
-use Rattle.judge.specs.Coded.{runFault}
+use Rattle.coded.specs.Coded.{runFault}
 use borrow.Author.Needs.{needs}
 use Rattle.judge.proofs.run_fault.Statement.{statement}
 use Rattle.judge.proofs.run_fault.Tie as tie

@@ -1,5 +1,5 @@
 use Rattle.model.specs.Line.{shape}
-use Rattle.judge.specs.Coded.{seenBy}
+use Rattle.coded.specs.Coded.{seenBy}
 use Rattle.model.specs.Line.{size, numsOf}
 use Rattle.judge.proofs.Laws.{seen-told}
 use borrow.Author.Needs.{needs}

@@ -1,7 +1,7 @@
 use native.Mathlib.Omega.{arith}
 use mathlib.Core.Path.{sym, _∙_}
 use Rattle.model.specs.Limits.{maxM, maxGuest}
-use Rattle.judge.specs.TableLaws.{ranged-in, slot-in, slot-out}
+use Rattle.coded.specs.TableLaws.{ranged-in, slot-in, slot-out}
 use borrow.Author.Needs.{needs}
 use Rattle.judge.proofs.slot.Statement.{statement}
 use Rattle.judge.proofs.slot.Tie as tie

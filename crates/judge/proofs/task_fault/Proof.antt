@@ -1,4 +1,4 @@
-use Rattle.judge.specs.Coded.{taskFault}
+use Rattle.coded.specs.Coded.{taskFault}
 use borrow.Author.Needs.{needs}
 use Rattle.judge.proofs.task_fault.Statement.{statement}
 use Rattle.judge.proofs.task_fault.Tie as tie

@@ -10,7 +10,7 @@ use borrow.Author.Needs.{needs}
 use Rattle.laws.specs.Bytes.{pieces}
 use Rattle.laws.specs.Steps.{take-rest, head-count}
 use Rattle.model.specs.Limits.{lf}
-use Rattle.judge.specs.Coded.{start}
+use Rattle.coded.specs.Coded.{start}
 use Rattle.filler.specs.Fill.{blank}
 use Rattle.filler.specs.LoopLaws.{line-fits}
 use Rattle.reader.specs.Judged.{judgedFrom, finishBy}

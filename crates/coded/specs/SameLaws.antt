@@ -18,9 +18,9 @@ use Rattle.model.specs.declared.Kind.the-variants.{PlanLine, PolicyPO, PolicyPN
 use Rattle.model.specs.Plan.{Owner, Global, Local, Open}
 use Rattle.model.specs.Lookup.{isGlobal, isLocalTo}
 use Rattle.model.specs.Rules.{Known, within, nth, vcpuOf, vcpuFits, rule, moved, withMutex, learn}
-use Rattle.judge.specs.Coded.{Seen, global, bump, ranged, vcpuFault, mutexFault, openFault, guestFault, hostFault, taskFault, runFault, lockFault, ruled, afterVcpu, afterMutex, afterOpen, placed, seenBy}
-use Rattle.judge.specs.Same.{Same}
-use Rattle.judge.specs.TableLaws.{within-in, byte-small, vcpus-more, mutexes-more, opens-more}
+use Rattle.coded.specs.Coded.{Seen, global, bump, ranged, vcpuFault, mutexFault, openFault, guestFault, hostFault, taskFault, runFault, lockFault, ruled, afterVcpu, afterMutex, afterOpen, placed, seenBy}
+use Rattle.coded.specs.Same.{Same}
+use Rattle.coded.specs.TableLaws.{within-in, byte-small, vcpus-more, mutexes-more, opens-more}
 
 -- THE SAME IS WRONG
 

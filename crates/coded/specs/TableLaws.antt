@@ -16,8 +16,8 @@ use Rattle.model.specs.Plan.{Vcpu, Owner, Mutex, Open}
 use Rattle.model.specs.Lookup.{hasVcpu, isVcpuOf, hasGuest, isGlobal, isLocalTo, hasMutex, localTo, opened}
 use Rattle.model.specs.Lookup as lookup
 use Rattle.model.specs.Rules.{within, last}
-use Rattle.judge.specs.Coded.{byte, global, openings, ranged, slot}
-use Rattle.judge.specs.Same.{VcpusSame, MutexesSame, OpensSame}
+use Rattle.coded.specs.Coded.{byte, global, openings, ranged, slot}
+use Rattle.coded.specs.Same.{VcpusSame, MutexesSame, OpensSame}
 
 pub within-in : (x lo hi : ℕ) → within x lo hi ≡ true → (lo ≤ x) × (x ≤ hi)
 within-in x lo hi h = (leb-true lo x (both-left (leb lo x) (leb x hi) h), leb-true x hi (both-right (leb lo x) (leb x hi) h))

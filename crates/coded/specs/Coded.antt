@@ -14,7 +14,7 @@ use Rattle.model.specs.declared.Kind.the-variants.{PlanLine, PolicyPO, PolicyPN
 use Rattle.model.specs.Line.{Item, bad, numsOf}
 use Rattle.model.specs.Rules.{phase, within, follows, nth, rises, vcpuFits}
 use Rattle.model.specs.Reading.{Judge}
-pub use Rattle.judge.specs.declared.Seen.{Seen}
+pub use Rattle.coded.specs.declared.Seen.{Seen}
 
 -- are the first n of the numbers written as they should be?
 abbrev pub fits : ℕ → ℕ → ℕ → ℕ → ℕ → ℕ → Bool

@@ -10,7 +10,7 @@ use Rattle.model.specs.Plan.{Vcpu, Mutex, Open}
 use Rattle.model.specs.Lookup.{hasVcpu, isVcpuOf, hasGuest, hasMutex, localTo, opened}
 use Rattle.model.specs.Lookup as lookup
 use Rattle.model.specs.Rules.{Known, within, lastV, lastM, lastOpen}
-use Rattle.judge.specs.Coded.{Seen, global, openings, slot}
+use Rattle.coded.specs.Coded.{Seen, global, openings, slot}
 
 -- the VCPUs: by v the guest, by guest whether it has one; nothing above the last v
 pub record VcpusSame (vs : List Vcpu) (guests hosted : List ℕ) (top : ℕ) : Type 0 where

@@ -17,9 +17,9 @@ use Rattle.model.specs.Lookup as lookup
 use Rattle.model.specs.Rules.{Known, phase, within, follows}
 use Rattle.model.specs.Rules as known
 use Rattle.model.specs.Reading.{rules, fault, Passes, readingBy, reading}
-use Rattle.judge.specs.Coded.{Seen, coded, start, global, openings, slot}
-use Rattle.judge.specs.Same.{Same}
-use Rattle.judge.specs.SameLaws.{same-rule, same-learn, clear-tail}
+use Rattle.coded.specs.Coded.{Seen, coded, start, global, openings, slot}
+use Rattle.coded.specs.Same.{Same}
+use Rattle.coded.specs.SameLaws.{same-rule, same-learn, clear-tail}
 use Rattle.model.specs.Simulated as simulated
 
 zeros : (n i : ℕ) → _≡_ {A = ℕ} (getD (replicate n 0) i 0) 0
