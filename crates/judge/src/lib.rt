@@ -1,6 +1,5 @@
 // One judge of a plan's items, a kind and its numbers: what is wrong with an item after those before it, and what is seen after it.
 // What it means stands in the crate coded.
-use coded::Seen;
 use coded::BAD;
 use coded::ENDED;
 use coded::GLOBAL;
@@ -17,6 +16,7 @@ use coded::MAX_V;
 use coded::MUTEXES;
 use coded::NOWHERE;
 use coded::OPENINGS;
+use coded::Seen;
 use coded::VCPUS;
 use model::Fault;
 use model::Kind;

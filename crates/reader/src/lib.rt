@@ -1,6 +1,6 @@
 // The reader: any bytes into lent tables, or a refusal that changes nothing. What it answers stands in specs/Into.
-use filler::Tally;
 use coded::Seen;
+use filler::Tally;
 use lines::Said;
 use model::Fault;
 use model::Found;
