@@ -21,7 +21,7 @@ use Rattle.tables.specs.declared.PlanRecord.{PlanRecord}
 use Rattle.tables.specs.Layout.{Tables, vcpuWidth, mutexWidth, openWidth, taskWidth, vcpuCells, mutexCells, openCells, taskCells, over, filled, recordOf}
 use Rattle.tables.specs.FlatLaws.{each-of, flat-length}
 use Rattle.tables.specs.LayoutLaws.{task-wide}
-use Rattle.tables.specs.Given.{roomy, isGiven}
+use Rattle.tables.specs.Given.{Gives, roomy, isGiven}
 use Rattle.tables.specs.GivenLaws.{Roomy, roomy-exactly, valid-few, given-exactly}
 use Rattle.reader.specs.Into.{PlanAnswer, Accepted, Refused, answerInto, planAnswer, tablesAfter}
 use Rattle.reader.specs.RoomLaws.{never-room}
@@ -177,14 +177,17 @@ module _ (s : List ℕ) (t : Tables) where
     λ h. room-refused (h .1 .0) (h .1 .1) ∙ ap (Refused Room) (sym (h .0)),
   )
 
-  -- what an accepted call leaves passes the test for 9
-  pub accepted-given : (r : PlanRecord) → planAnswer s t ≡ Accepted r → isGiven r (tablesAfter s t) ≡ true
-  accepted-given r h =
+  -- what an accepted call leaves is what the plan gives
+  pub accepted-gives : (r : PlanRecord) → planAnswer s t ≡ Accepted r → (p : Plan) × (reading s ≡ Accepts p) × Valid p × Gives p r (tablesAfter s t)
+  accepted-gives r h =
       let w = accepted-why r h in
       let p : Plan = w .0 in
-      let v : Valid p = read-text s p (w .1 .reads) .0 in
       let e : tablesAfter s t ≡ filled p t = after-filled s t p (w .1 .reads) (w .1 .room) in
-      given-exactly r (tablesAfter s t) .1 (p, v, record { recorded = w .1 .recorded; held = e ∙ sym (filled-again p t) ∙ ap (filled p) (sym e) })
+      (p, w .1 .reads, read-text s p (w .1 .reads) .0, record { recorded = w .1 .recorded; held = e ∙ sym (filled-again p t) ∙ ap (filled p) (sym e) })
+
+  -- and so passes the test for 9
+  pub accepted-given : (r : PlanRecord) → planAnswer s t ≡ Accepted r → isGiven r (tablesAfter s t) ≡ true
+  accepted-given r h = let w = accepted-gives r h in given-exactly r (tablesAfter s t) .1 (w .0, w .2, w .3)
 
 -- any two answers, and any two tables left, that the contract of `read_plan` allows are the same
 pub answer-once : (s : List ℕ) (t : Tables) (a b : PlanAnswer) → a ≡ planAnswer s t → b ≡ planAnswer s t → a ≡ b
