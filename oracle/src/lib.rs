@@ -10,4 +10,5 @@ pub mod limits;
 pub mod plan;
 pub mod reading;
 pub mod search;
+pub mod tally;
 pub mod verdict;

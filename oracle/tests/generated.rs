@@ -12,6 +12,7 @@ use oracle::generate::{
 use oracle::limits::INPUT_BYTES;
 use oracle::plan::{Overrun, Policy};
 use oracle::reading::read;
+use oracle::tally::Tally;
 use oracle::verdict::verdict_text;
 
 #[test]
@@ -290,6 +291,90 @@ fn frames_hold_any_bytes() {
     ] {
         assert_eq!(frames::split(bad), None);
     }
+}
+
+/// What the gate compares reaches every corner that is meant.
+#[test]
+fn the_gates_cases_reach_every_corner() {
+    let mut plans = Tally::default();
+    for index in 0..1500 {
+        let plan = plan_case(1, index);
+        plans.add_listing(&plan, &verdict_text(&plan));
+    }
+    assert!(plans.accepted > 500, "{}", plans);
+    assert!((1..=8).all(|number| plans.refused.contains_key(&number)));
+    assert!(plans.policies.len() == 4 && plans.policies.values().all(|n| *n > 100));
+    assert!(plans.interleaved > 50 && plans.crowded > 200, "{}", plans);
+    assert!(plans.long > 5 && plans.most_rounds > 10_000, "{}", plans);
+    assert!(plans.beyond > 30, "{}", plans);
+    for row in [
+        "vcpu fits",
+        "vcpu late",
+        "wait fits",
+        "wait none",
+        "task fits",
+        "task late",
+        "task nowait",
+        "task held",
+    ] {
+        assert!(plans.rows.get(row).map_or(false, |n| *n > 100), "{}", plans);
+    }
+    assert!(plans.all.len() == 2 && plans.all.values().all(|n| *n > 50));
+
+    let mut lists = Tally::default();
+    for index in 0..500 {
+        let case = board_case(1, index);
+        let plan = case.plan.unwrap_or_default();
+        lists.add_answers(&plan, &case.events, &board_text(&plan, &case.events));
+    }
+    assert!(lists.lists == 500 && lists.accepted > 400, "{}", lists);
+    for answer in [
+        "granted",
+        "waits",
+        "freed",
+        "freed to nobody",
+        "left",
+        "show",
+        "refused 1",
+        "refused 2",
+        "refused 3",
+        "refused 10",
+        "refused 11",
+        "refused 12",
+        "refused 13",
+        "refused 14",
+        "refused 15",
+    ] {
+        let seen = lists.answers.get(answer).copied().unwrap_or(0);
+        assert!(seen > 100, "{}: {}", answer, lists);
+    }
+}
+
+#[test]
+fn a_tally_counts_what_it_is_given() {
+    let plan = common::text(&common::worked("P O"));
+    let mut one = Tally::default();
+    one.add_listing(&plan, &verdict_text(&plan));
+    one.add_listing(b"", &verdict_text(b""));
+    one.add_listing(&[b'x'; 65_537], b"refused\t8\t0\n");
+    let mut tally = Tally::default();
+    tally.add(&one);
+    tally.add(&one);
+    assert_eq!((tally.accepted, tally.most_rounds, tally.long), (2, 4, 0));
+    assert_eq!(tally.refused, BTreeMap::from([(1, 2), (8, 2)]));
+    assert_eq!(tally.policies, BTreeMap::from([("P O", 2)]));
+    let rows: BTreeMap<&str, u64> = tally.rows.iter().map(|(k, n)| (k.as_str(), *n)).collect();
+    assert_eq!(
+        rows,
+        BTreeMap::from([("task late", 4), ("vcpu fits", 4), ("wait fits", 4)])
+    );
+    let mut board = Tally::default();
+    board.add_answers(&plan, b"top\t1\n", b"left\t3\t1\n");
+    board.add_answers(&plan, &[b'\n'; 65_537], b"refused\t8\t0\n");
+    board.add_answers(b"", b"top\t1\n", b"refused\t1\t1\n");
+    assert_eq!((board.lists, board.accepted), (3, 1));
+    assert_eq!(board.refused, BTreeMap::from([(1, 1), (8, 1)]));
+    assert_eq!(board.answers, BTreeMap::from([("left".to_string(), 1)]));
 }
 
 /// FNV-1a over everything given.

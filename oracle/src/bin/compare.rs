@@ -5,25 +5,57 @@ use std::io::{Read, Write};
 use std::path::{Path, PathBuf};
 use std::process::{Command, ExitCode, Stdio};
 use std::sync::atomic::{AtomicU64, Ordering};
+use std::sync::Mutex;
 
 use oracle::events::board_text;
 use oracle::generate::{board_case, plan_case};
 use oracle::limits::INPUT_BYTES;
 use oracle::reading::read;
+use oracle::tally::Tally;
 use oracle::verdict::verdict_text;
 
 const USAGE: &str = "usage:
   compare reading SEED COUNT SAVE PROGRAM [ARG ..]    COUNT generated plans: their rows, or the refusal
   compare verdict SEED COUNT SAVE PROGRAM [ARG ..]    COUNT generated plans: the listing
   compare board SEED COUNT SAVE PROGRAM [ARG ..]      COUNT generated plans with events
-  compare plans FOLDER SAVE PROGRAM [ARG ..]          every file of FOLDER as a plan
-  compare events FOLDER SAVE PROGRAM [ARG ..]         every folder in FOLDER with plan.tsv (if any) and events.tsv
-A case on which the program and the reference differ is kept in the folder SAVE. Status 1 where there is one.
+  compare plans FOLDER SAVE PROGRAM [ARG ..]          the plans that FOLDER/want.tsv names, and what it wants of each
+  compare events FOLDER SAVE PROGRAM [ARG ..]         every folder in FOLDER: plan.tsv (if any), events.tsv, want.tsv
+A case on which the program and the reference differ, or the reference and what is wanted, is kept in the folder SAVE.
+Status 1 where there is one, 2 where the cases or the program cannot be had.
 ";
 
 /// Cases are shared out over this many threads.
 const THREADS: u64 = 2;
 
+/// Progress is shown after each so many cases.
+const SHOWN: u64 = 250;
+
+/// What is wanted of a stored case, worked out by hand.
+#[derive(Clone)]
+enum Want {
+    /// A listing, whichever.
+    Accepted,
+    /// These bytes.
+    Text(Vec<u8>),
+}
+
+impl Want {
+    fn meets(&self, text: &[u8]) -> bool {
+        match self {
+            Want::Accepted => text.starts_with(b"verdict\t1\n"),
+            Want::Text(bytes) => text == bytes.as_slice(),
+        }
+    }
+
+    fn words(&self) -> &[u8] {
+        match self {
+            Want::Accepted => b"accepted\n",
+            Want::Text(bytes) => bytes,
+        }
+    }
+}
+
+#[derive(Clone)]
 struct Case {
     name: String,
     /// Only the reading is compared.
@@ -31,6 +63,7 @@ struct Case {
     plan: Option<Vec<u8>>,
     /// None for a run of `verdict`, whose input is the plan.
     events: Option<Vec<u8>>,
+    want: Option<Want>,
 }
 
 fn main() -> ExitCode {
@@ -56,48 +89,34 @@ fn run(args: &[String]) -> Result<u64, String> {
             if !program.is_empty() =>
         {
             let seed = number(seed)?;
-            all(number(count)?, save, program, &|index| Case {
-                name: format!("{}-{}-{}", what, seed, index),
-                reading: *what == "reading",
-                plan: Some(plan_case(seed, index)),
-                events: None,
+            all(number(count)?, save, program, &|index| {
+                Some(Case {
+                    name: format!("{}-{}-{}", what, seed, index),
+                    reading: *what == "reading",
+                    plan: Some(plan_case(seed, index)),
+                    events: None,
+                    want: None,
+                })
             })
         }
         ["board", seed, count, save, program @ ..] if !program.is_empty() => {
             let seed = number(seed)?;
             all(number(count)?, save, program, &|index| {
                 let case = board_case(seed, index);
-                Case {
+                Some(Case {
                     name: format!("board-{}-{}", seed, index),
                     reading: false,
                     plan: case.plan,
                     events: Some(case.events),
-                }
+                    want: None,
+                })
             })
         }
-        [what @ ("plans" | "events"), folder, save, program @ ..] if !program.is_empty() => {
-            let stored = entries(folder)?;
-            all(stored.len() as u64, save, program, &|index| {
-                let path = stored.get(index as usize).cloned().unwrap_or_default();
-                let name = named(&path);
-                if *what == "plans" {
-                    let plan = Some(std::fs::read(&path).unwrap_or_default());
-                    return Case {
-                        name,
-                        reading: false,
-                        plan,
-                        events: None,
-                    };
-                }
-                let plan = std::fs::read(path.join("plan.tsv")).ok();
-                let events = Some(std::fs::read(path.join("events.tsv")).unwrap_or_default());
-                Case {
-                    name,
-                    reading: false,
-                    plan,
-                    events,
-                }
-            })
+        ["plans", folder, save, program @ ..] if !program.is_empty() => {
+            stored(stored_plans(Path::new(folder))?, save, program)
+        }
+        ["events", folder, save, program @ ..] if !program.is_empty() => {
+            stored(stored_events(Path::new(folder))?, save, program)
         }
         _ => Err(USAGE.to_string()),
     }
@@ -108,41 +127,137 @@ fn number(text: &str) -> Result<u64, String> {
         .map_err(|_| format!("compare: {} is no number\n{}", text, USAGE))
 }
 
+fn file_bytes(path: &Path) -> Result<Vec<u8>, String> {
+    std::fs::read(path).map_err(|e| format!("compare: {}: {}\n", path.display(), e))
+}
+
 /// What a folder holds, in order of name.
-fn entries(folder: &str) -> Result<Vec<PathBuf>, String> {
-    let listed = std::fs::read_dir(folder).map_err(|e| format!("compare: {}: {}\n", folder, e))?;
-    let mut found: Vec<PathBuf> = listed.filter_map(|e| e.ok()).map(|e| e.path()).collect();
-    found.sort();
-    if found.is_empty() {
-        return Err(format!("compare: {} is empty\n", folder));
+fn entries(folder: &Path) -> Result<Vec<PathBuf>, String> {
+    let fail = |e| format!("compare: {}: {}\n", folder.display(), e);
+    let mut found = Vec::new();
+    for entry in std::fs::read_dir(folder).map_err(fail)? {
+        found.push(entry.map_err(fail)?.path());
     }
+    found.sort();
     Ok(found)
 }
 
 fn named(path: &Path) -> String {
-    path.file_name()
+    path.file_stem()
         .map_or_else(String::new, |n| n.to_string_lossy().into_owned())
 }
 
-/// Runs all cases, shows progress, and says how many differ.
+/// The names of the files of a folder that end in `.tsv`.
+fn tsv_names(folder: &Path) -> Result<Vec<String>, String> {
+    let files = entries(folder)?;
+    let tsv = files
+        .iter()
+        .filter(|p| p.extension().map_or(false, |e| e == "tsv"));
+    Ok(tsv.map(|p| named(p)).collect())
+}
+
+/// FOLDER/want.tsv: a name, and `accepted` or `refused` number line, for every other
+/// .tsv file there. FOLDER/listings/NAME.tsv, where it is, is the listing of an accepted plan.
+fn stored_plans(folder: &Path) -> Result<Vec<Case>, String> {
+    let list = folder.join("want.tsv");
+    let bad = |what: &str| format!("compare: {}: {}\n", list.display(), what);
+    let listings = folder.join("listings");
+    let mut unused = if listings.is_dir() {
+        tsv_names(&listings)?
+    } else {
+        Vec::new()
+    };
+    let mut cases: Vec<Case> = Vec::new();
+    for line in String::from_utf8_lossy(&file_bytes(&list)?).lines() {
+        let (name, wanted) = line.split_once('\t').ok_or_else(|| bad(line))?;
+        let fields: Vec<&str> = wanted.split('\t').collect();
+        let want = match fields.as_slice() {
+            ["refused", _, _] => Want::Text(format!("{}\n", wanted).into_bytes()),
+            ["accepted"] if unused.iter().any(|n| n == name) => {
+                unused.retain(|n| n != name);
+                Want::Text(file_bytes(&listings.join(format!("{}.tsv", name)))?)
+            }
+            ["accepted"] => Want::Accepted,
+            _ => return Err(bad(line)),
+        };
+        if cases.iter().any(|c| c.name == name) {
+            return Err(bad(&format!("{} stands there twice", name)));
+        }
+        cases.push(Case {
+            name: name.to_string(),
+            reading: false,
+            plan: Some(file_bytes(&folder.join(format!("{}.tsv", name)))?),
+            events: None,
+            want: Some(want),
+        });
+    }
+    if let Some(name) = unused.first() {
+        return Err(bad(&format!("{} has a listing and is not accepted", name)));
+    }
+    for name in tsv_names(folder)? {
+        if name != "want" && !cases.iter().any(|c| c.name == name) {
+            return Err(bad(&format!("{} is not there", name)));
+        }
+    }
+    Ok(cases)
+}
+
+/// Each folder has events.tsv and want.tsv, and plan.tsv unless the plan is absent.
+fn stored_events(folder: &Path) -> Result<Vec<Case>, String> {
+    let mut cases = Vec::new();
+    for path in entries(folder)? {
+        let plan = path.join("plan.tsv");
+        cases.push(Case {
+            name: named(&path),
+            reading: false,
+            plan: if plan.exists() {
+                Some(file_bytes(&plan)?)
+            } else {
+                None
+            },
+            events: Some(file_bytes(&path.join("events.tsv"))?),
+            want: Some(Want::Text(file_bytes(&path.join("want.tsv"))?)),
+        });
+    }
+    Ok(cases)
+}
+
+fn stored(cases: Vec<Case>, save: &str, program: &[&str]) -> Result<u64, String> {
+    if cases.is_empty() {
+        return Err("compare: no case is stored there\n".to_string());
+    }
+    let count = cases.len() as u64;
+    all(count, save, program, &|index| {
+        cases.get(index as usize).cloned()
+    })
+}
+
+/// A closed standard output is no fault.
+fn show(text: &str) {
+    let _ = std::io::stdout().write_all(text.as_bytes());
+}
+
+/// Runs all cases, shows progress and what they held, and says how many differ.
 fn all(
     count: u64,
     save: &str,
     program: &[&str],
-    case: &(dyn Fn(u64) -> Case + Sync),
+    case: &(dyn Fn(u64) -> Option<Case> + Sync),
 ) -> Result<u64, String> {
     let next = AtomicU64::new(0);
     let differing = AtomicU64::new(0);
-    let failed = std::sync::Mutex::new(None);
+    let done = Mutex::new((0, Tally::default()));
+    let failed = Mutex::new(None);
     std::thread::scope(|scope| {
         for thread in 0..THREADS {
-            let (next, differing, failed) = (&next, &differing, &failed);
+            let (next, differing, done, failed) = (&next, &differing, &done, &failed);
             scope.spawn(move || loop {
                 let index = next.fetch_add(1, Ordering::SeqCst);
-                if index >= count {
-                    return;
-                }
-                match one(&case(index), save, program, thread) {
+                let case = match case(index) {
+                    Some(case) if index < count => case,
+                    _ => return,
+                };
+                match one(&case, save, program, thread, done) {
                     Ok(true) => {}
                     Ok(false) => {
                         differing.fetch_add(1, Ordering::SeqCst);
@@ -155,13 +270,15 @@ fn all(
                         return;
                     }
                 }
-                if (index + 1) % 1000 == 0 {
-                    println!(
-                        "{} of {} cases, {} differ",
-                        index + 1,
-                        count,
-                        differing.load(Ordering::SeqCst)
-                    );
+                if let Ok(mut held) = done.lock() {
+                    held.0 += 1;
+                    if held.0 % SHOWN == 0 {
+                        let differ = differing.load(Ordering::SeqCst);
+                        show(&format!(
+                            "{} of {} cases, {} differ\n",
+                            held.0, count, differ
+                        ));
+                    }
                 }
             });
         }
@@ -172,18 +289,39 @@ fn all(
         }
     }
     let differ = differing.load(Ordering::SeqCst);
-    println!("{} cases compared, {} differ", count, differ);
+    let held = done
+        .into_inner()
+        .map_err(|_| "compare: a thread failed\n")?;
+    if held.0 != count {
+        return Err(format!("compare: {} of {} cases ran\n", held.0, count));
+    }
+    show(&format!("{} cases compared, {} differ\n", count, differ));
+    show(&held.1.to_string());
     Ok(differ)
 }
 
-/// Does the program print what the reference does?
-fn one(case: &Case, save: &str, program: &[&str], thread: u64) -> Result<bool, String> {
+/// Does the program print what the reference does, and the reference what is wanted?
+fn one(
+    case: &Case,
+    save: &str,
+    program: &[&str],
+    thread: u64,
+    done: &Mutex<(u64, Tally)>,
+) -> Result<bool, String> {
     let plan = case.plan.clone().unwrap_or_default();
     let (wanted, input) = match &case.events {
-        None if case.reading => (rows_text(&plan), plan),
-        None => (verdict_text(&plan), plan),
-        Some(events) => (board_text(&plan, events), events.clone()),
+        None if case.reading => (rows_text(&plan), &plan),
+        None => (verdict_text(&plan), &plan),
+        Some(events) => (board_text(&plan, events), events),
     };
+    let mut held = Tally::default();
+    match &case.events {
+        None => held.add_listing(&plan, &wanted),
+        Some(events) => held.add_answers(&plan, events, &wanted),
+    }
+    if let Ok(mut all) = done.lock() {
+        all.1.add(&held);
+    }
     let place = std::env::temp_dir().join(format!("compare-{}-{}", std::process::id(), thread));
     if case.events.is_some() {
         std::fs::create_dir_all(&place).map_err(|e| format!("compare: {}\n", e))?;
@@ -196,28 +334,36 @@ fn one(case: &Case, save: &str, program: &[&str], thread: u64) -> Result<bool, S
     let got = printed(
         program,
         case.events.as_ref().map(|_| place.as_path()),
-        &input,
+        input,
     )?;
     if case.events.is_some() {
         let _ = std::fs::remove_dir_all(&place);
     }
-    if got == wanted {
+    let meets = case.want.as_ref().map_or(true, |w| w.meets(&wanted));
+    if got == wanted && meets {
         return Ok(true);
     }
     let kept = Path::new(save).join(&case.name);
-    let written = std::fs::create_dir_all(&kept)
-        .and_then(|()| match &case.plan {
-            Some(bytes) => std::fs::write(kept.join("plan.tsv"), bytes),
-            None => Ok(()),
-        })
-        .and_then(|()| match &case.events {
-            Some(bytes) => std::fs::write(kept.join("events.tsv"), bytes),
-            None => Ok(()),
-        })
-        .and_then(|()| std::fs::write(kept.join("wanted"), &wanted))
-        .and_then(|()| std::fs::write(kept.join("got"), &got));
-    written.map_err(|e| format!("compare: {}: {}\n", kept.display(), e))?;
-    println!("differs: {}", kept.display());
+    let write = |file: &str, bytes: Option<&[u8]>| match bytes {
+        Some(bytes) => std::fs::write(kept.join(file), bytes),
+        None => Ok(()),
+    };
+    std::fs::create_dir_all(&kept)
+        .and_then(|()| write("plan.tsv", case.plan.as_deref()))
+        .and_then(|()| write("events.tsv", case.events.as_deref()))
+        .and_then(|()| write("by-hand", case.want.as_ref().map(|w| w.words())))
+        .and_then(|()| write("reference", Some(&wanted)))
+        .and_then(|()| write("got", Some(&got)))
+        .map_err(|e| format!("compare: {}: {}\n", kept.display(), e))?;
+    if got != wanted {
+        show(&format!("differs: {}\n", kept.display()));
+    }
+    if !meets {
+        show(&format!(
+            "the reference is not what is wanted by hand: {}\n",
+            kept.display()
+        ));
+    }
     Ok(false)
 }
 
@@ -236,7 +382,8 @@ fn rows_text(plan: &[u8]) -> Vec<u8> {
     }
 }
 
-/// What a program prints for this standard input. A program that stops reading early is no fault.
+/// What a program prints for this standard input. A program that stops reading early is no
+/// fault; one that ends with another status than 0 prints nothing that is wanted.
 fn printed(program: &[&str], place: Option<&Path>, input: &[u8]) -> Result<Vec<u8>, String> {
     let (name, args) = match program.split_first() {
         Some(split) => split,
@@ -266,6 +413,11 @@ fn printed(program: &[&str], place: Option<&Path>, input: &[u8]) -> Result<Vec<u
             let _ = pipe.read_to_end(&mut out);
         }
     });
-    let _ = child.wait();
+    let status = child
+        .wait()
+        .map_err(|e| format!("compare: {}: {}\n", name, e))?;
+    if !status.success() {
+        out.extend_from_slice(format!("[ended with {}]\n", status).as_bytes());
+    }
     Ok(out)
 }

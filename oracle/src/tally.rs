@@ -1,0 +1,216 @@
+//! What a run of cases held: how many of each answer, and which corners they reached.
+
+use std::collections::BTreeMap;
+use std::fmt;
+
+use crate::figures::{global_sections, wait_demand, wait_start};
+use crate::limits::{INPUT_BYTES, LOCKS};
+use crate::plan::{Overrun, Plan, Policy};
+use crate::reading::read;
+
+/// A row of this many rounds counts as long.
+pub const LONG: u64 = 1000;
+
+#[derive(Clone, PartialEq, Eq, Debug, Default)]
+pub struct Tally {
+    /// Plans accepted.
+    pub accepted: u64,
+    /// Plans refused, by number.
+    pub refused: BTreeMap<u64, u64>,
+    /// Accepted plans by the letters of their policy.
+    pub policies: BTreeMap<&'static str, u64>,
+    /// Accepted plans whose tasks do not stand in the order of the listing.
+    pub interleaved: u64,
+    /// Tasks with as many locks as a task may have.
+    pub crowded: u64,
+    /// Rows of LONG rounds or more, and the most rounds of a row.
+    pub long: u64,
+    pub most_rounds: u64,
+    /// Waits with a demand of more than 64 bits on their way.
+    pub beyond: u64,
+    /// Rows of a listing by word and answer: `vcpu fits`, `wait none`, `task held` ..
+    pub rows: BTreeMap<String, u64>,
+    /// Listings by their last line.
+    pub all: BTreeMap<String, u64>,
+    /// Event lists, and the answers to their events: `granted`, `freed -`, `refused 12` ..
+    pub lists: u64,
+    pub answers: BTreeMap<String, u64>,
+}
+
+fn one_more<K: Ord>(counts: &mut BTreeMap<K, u64>, key: K) {
+    *counts.entry(key).or_insert(0) += 1;
+}
+
+fn all_of<K: Ord + Clone>(counts: &mut BTreeMap<K, u64>, more: &BTreeMap<K, u64>) {
+    for (key, count) in more {
+        *counts.entry(key.clone()).or_insert(0) += count;
+    }
+}
+
+impl Tally {
+    /// All that another one held.
+    pub fn add(&mut self, more: &Tally) {
+        self.accepted += more.accepted;
+        all_of(&mut self.refused, &more.refused);
+        all_of(&mut self.policies, &more.policies);
+        self.interleaved += more.interleaved;
+        self.crowded += more.crowded;
+        self.long += more.long;
+        self.most_rounds = self.most_rounds.max(more.most_rounds);
+        self.beyond += more.beyond;
+        all_of(&mut self.rows, &more.rows);
+        all_of(&mut self.all, &more.all);
+        self.lists += more.lists;
+        all_of(&mut self.answers, &more.answers);
+    }
+
+    /// A plan and the listing that it gives.
+    pub fn add_listing(&mut self, plan: &[u8], listing: &[u8]) {
+        self.add_plan(plan);
+        for line in String::from_utf8_lossy(listing).lines() {
+            let fields: Vec<&str> = line.split('\t').collect();
+            match fields.as_slice() {
+                [word @ ("vcpu" | "task"), .., answer, _, rounds] => {
+                    one_more(&mut self.rows, format!("{} {}", word, answer));
+                    self.add_rounds(rounds);
+                }
+                ["wait", _, _, _, ticks, rounds] => {
+                    let answer = if *ticks == "none" { "none" } else { "fits" };
+                    one_more(&mut self.rows, format!("wait {}", answer));
+                    self.add_rounds(rounds);
+                }
+                ["all", answer] => one_more(&mut self.all, answer.to_string()),
+                _ => {}
+            }
+        }
+    }
+
+    /// A plan, its events' size, and the answers to them.
+    pub fn add_answers(&mut self, plan: &[u8], events: &[u8], answers: &[u8]) {
+        self.lists += 1;
+        if events.len() > INPUT_BYTES {
+            one_more(&mut self.refused, 8);
+            return;
+        }
+        if !self.add_plan(plan) {
+            return;
+        }
+        for line in String::from_utf8_lossy(answers).lines() {
+            let fields: Vec<&str> = line.split('\t').collect();
+            let key = match fields.as_slice() {
+                ["freed", "-", "-"] => "freed to nobody".to_string(),
+                ["refused", number] => format!("refused {}", number),
+                [word, ..] => word.to_string(),
+                [] => String::new(),
+            };
+            one_more(&mut self.answers, key);
+        }
+    }
+
+    /// Is the plan accepted?
+    fn add_plan(&mut self, plan: &[u8]) -> bool {
+        if plan.len() > INPUT_BYTES {
+            one_more(&mut self.refused, 8);
+            return false;
+        }
+        match read(plan) {
+            Ok(plan) => {
+                self.accepted += 1;
+                self.add_accepted(&plan);
+                true
+            }
+            Err(refusal) => {
+                one_more(&mut self.refused, u64::from(refusal.number));
+                false
+            }
+        }
+    }
+
+    fn add_accepted(&mut self, plan: &Plan) {
+        let letters = match (plan.policy, plan.overrun) {
+            (Policy::Periodic, Overrun::With) => "P O",
+            (Policy::Periodic, Overrun::Without) => "P N",
+            (Policy::Deferrable, Overrun::With) => "D O",
+            (Policy::Deferrable, Overrun::Without) => "D N",
+        };
+        one_more(&mut self.policies, letters);
+        let order: Vec<(u64, u64)> = plan.tasks().map(|t| (t.v, t.n)).collect();
+        let rising = order.iter().zip(order.iter().skip(1)).all(|(a, b)| a < b);
+        self.interleaved += u64::from(!rising);
+        let full = plan.tasks().filter(|t| t.locks.len() == LOCKS);
+        self.crowded += full.count() as u64;
+        self.beyond += waits_beyond(plan);
+    }
+
+    fn add_rounds(&mut self, rounds: &str) {
+        let rounds = rounds.parse().unwrap_or(0);
+        self.long += u64::from(rounds >= LONG);
+        self.most_rounds = self.most_rounds.max(rounds);
+    }
+}
+
+/// Waits whose recurrence meets a demand of more than 64 bits, their first term among them.
+fn waits_beyond(plan: &Plan) -> u64 {
+    let sections = global_sections(plan);
+    let mut count = 0;
+    for s in &sections {
+        let demand = wait_demand(&sections, s.v, s.m);
+        let mut t = wait_start(&sections, s.v, s.m);
+        while t <= u128::from(s.period) {
+            let next = u64::try_from(t).map_or(u128::MAX, |t| demand.at(t));
+            if next <= t {
+                break;
+            }
+            t = next;
+        }
+        count += u64::from(t > u128::from(u64::MAX));
+    }
+    count
+}
+
+/// `a 1, b 2`, or `none`.
+fn counted<K: fmt::Display>(counts: &BTreeMap<K, u64>) -> String {
+    let parts: Vec<String> = counts.iter().map(|(k, n)| format!("{} {}", k, n)).collect();
+    if parts.is_empty() {
+        "none".to_string()
+    } else {
+        parts.join(", ")
+    }
+}
+
+impl fmt::Display for Tally {
+    fn fmt(&self, f: &mut fmt::Formatter) -> fmt::Result {
+        let by_number: BTreeMap<String, u64> = self
+            .refused
+            .iter()
+            .map(|(number, n)| (format!("by {}:", number), *n))
+            .collect();
+        writeln!(f, "  plans accepted: {}", self.accepted)?;
+        writeln!(f, "  plans refused: {}", counted(&by_number))?;
+        writeln!(
+            f,
+            "  policies of accepted plans: {}",
+            counted(&self.policies)
+        )?;
+        writeln!(
+            f,
+            "  tasks out of the listing's order: {} plans; tasks with {} locks: {}",
+            self.interleaved, LOCKS, self.crowded
+        )?;
+        if self.lists > 0 {
+            return writeln!(
+                f,
+                "  event lists: {}; answers: {}",
+                self.lists,
+                counted(&self.answers)
+            );
+        }
+        writeln!(f, "  rows: {}", counted(&self.rows))?;
+        writeln!(f, "  listings: {}", counted(&self.all))?;
+        writeln!(
+            f,
+            "  rows of {} rounds or more: {}, most rounds: {}; waits with a demand over 64 bits: {}",
+            LONG, self.long, self.most_rounds, self.beyond
+        )
+    }
+}
