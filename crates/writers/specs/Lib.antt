@@ -1,4 +1,5 @@
 pub mod Into
+pub mod IntoLaws
 pub mod Wrote
 pub mod WroteLaws
 pub mod Lines

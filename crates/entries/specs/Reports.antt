@@ -1,0 +1,365 @@
+-- "For an accepted plan a response time is reported exactly when some whole number of ticks from zero to the period is at least the demand that this number gives,
+-- and it is the smallest such number. Remote waits obey the same rule. A task whose demand rests on a wait without such a number is named so."
+-- Said of what the calls answer, by specs/Asked.
+use Prim.Native.Nat.{ℕ, _≤_, _<_}
+use mathlib.Core.Path.{_≡_, refl, ap, sym, _∙_}
+use mathlib.Core.Bool.{Bool, true, false, _||_, false≢true, true≢false}
+use mathlib.Core.List.{List, [], _∷_, List·Memᴰ, List·Memᴰ·head, List·Memᴰ·tail}
+use mathlib.Core.Logic.{_↔_}
+use mathlib.Core.Option.{some}
+use native.Mathlib.Omega.{arith}
+use borrow.Author.Tests.{eqb-true, eq-eqb, ltb-true, lt-ltb}
+use lib.Dec.{eqb}
+use Rattle.laws.specs.BoolLaws.{both, both-left, both-right, either-left, either-right}
+use Rattle.laws.specs.Sums.{any}
+use Rattle.search.specs.declared.Answer.{Answer}
+use Rattle.search.specs.declared.Answer.the-variants.{Fits, Late}
+use Rattle.search.specs.Search.{window, solve}
+use Rattle.search.specs.SearchLaws.{Answered, solve-answers}
+use Rattle.model.specs.declared.Refusal.{Refusal}
+use Rattle.model.specs.declared.Refusal.the-variants.{Foreign, Unknown}
+use Rattle.model.specs.Plan.{Vcpu, Lock, Task, Plan}
+use Rattle.model.specs.Valid.{Valid}
+use Rattle.model.specs.Lookup.{hasVcpu, global}
+use Rattle.tables.specs.declared.PlanRecord.{PlanRecord}
+use Rattle.tables.specs.Layout.{Tables}
+use Rattle.tables.specs.Given.{Gives, planIn, isGiven}
+use Rattle.tables.specs.GivenLaws.{plan-given, given-exactly}
+use Rattle.figures.specs.System.{System, system}
+use Rattle.figures.specs.Figures.{vcpuAt, higherTask, vcpuDemand, waitDemand, lengths, taskDemand, response}
+use Rattle.figures.specs.Named.{hasTask, taskAt, lockAt, hasSection}
+use Rattle.figures.specs.Demands.{vcpu-demand, wait-demand, task-demand}
+use Rattle.figures.specs.declared.TaskAnswer.{TaskAnswer}
+use Rattle.figures.specs.declared.TaskAnswer.the-variants.{Searched, NoWait, Held}
+use Rattle.figures.specs.Answers.{vcpuAnswer, waitAnswer, taskAnswer, isLate, remoteWaits, lacksWait, isHeld}
+use Rattle.entries.specs.Asked.{Row, NoRow, TaskRow, NoTaskRow, Figure, NoFigure, hasPlace, vcpuRowOf, waitRowOf, taskRowOf, responseRowOf, vcpuAsked, waitAsked, taskAsked, responseAsked}
+
+-- the plan in lent tables
+abbrev pub planOf : PlanRecord → Tables → System
+planOf r t = system (planIn r t)
+
+-- of tables that an accepted plan gives, the test for 9 says so, and the plan in them is that plan
+pub accepted-plan : {p : Plan} {r : PlanRecord} {t : Tables} → Valid p → Gives p r t → (isGiven r t ≡ true) × (planOf r t ≡ system p)
+accepted-plan {p} {r} {t} h g = (given-exactly r t .1 (p, h, g), ap system (plan-given h g))
+
+-- a response time is reported exactly when some number from zero to the limit is at least its demand, and it is the smallest such number
+pub record Reports (d : ℕ → ℕ) (limit : ℕ) (a : Answer) : Type 0 where
+  pub exactly : ((w : ℕ) × (n : ℕ) × (a ≡ Fits w n)) ↔ ((t : ℕ) × (t ≤ limit) × (d t ≤ t))
+  pub smallest : (w n : ℕ) → a ≡ Fits w n → (w ≤ limit) × (d w ≤ w) × ((t : ℕ) → t ≤ limit → d t ≤ t → w ≤ t)
+
+-- THE SEARCHES REPORT SO
+fits-of : (a : Answer) (w : ℕ) → window a ≡ some w → (n : ℕ) × (a ≡ Fits w n)
+fits-of (Fits v n) w e = (n, cc)
+fits-of (Late n) w e = absurd (let z : _≡_ {A = ℕ} 0 1 = cc in omega arith)
+
+answered-reports : {d : ℕ → ℕ} {s l : ℕ} {a : Answer} → Answered d s l a → Reports d l a
+answered-reports {a} h = record {
+  exactly = (
+    λ q. h .exactly .1 (q .0, ap window (q .2)),
+    λ q. let x = h .exactly .0 q in let y = fits-of a (x .0) (x .1) in (x .0, y .0, y .1),
+  );
+  smallest = λ w n e. h .least w (ap window e);
+}
+
+pub vcpu-answer-reports : (s : System) (x : Vcpu) → Reports (vcpuDemand s x) (x .period) (vcpuAnswer s x)
+unfolding vcpuAnswer
+vcpu-answer-reports s x = answered-reports (solve-answers (x .period) (vcpu-demand s x))
+
+pub wait-answer-reports : (s : System) (k : Task) (l : Lock) → Reports (waitDemand s (k .v) (l .m)) (k .period) (waitAnswer s k l)
+unfolding waitAnswer
+wait-answer-reports s k l = answered-reports (solve-answers (k .period) (wait-demand s (k .v) (l .m)))
+
+pub task-search-reports :
+    (s : System) (waits : Task → ℕ) (k : Task) → Reports (taskDemand s waits k) (k .period) (solve (taskDemand s waits k) (lengths k) (k .period))
+task-search-reports s waits k = answered-reports (solve-answers (k .period) (task-demand s waits k))
+
+-- an answer is late exactly when there is no such number
+reports-late : {d : ℕ → ℕ} {l : ℕ} (a : Answer) → Reports d l a → (isLate a ≡ true) ↔ ((t : ℕ) → t ≤ l → ¬ (d t ≤ t))
+reports-late (Fits w n) h =
+    (λ e. absurd (false≢true e), λ q. let x = h .smallest w n refl in absurd (q w (x .0) (x .1)))
+reports-late (Late n) h =
+    (λ e t l p. let x = h .exactly .1 (t, l, p) in let y = x .2 in let z : _≡_ {A = ℕ} 0 1 = cc in omega arith, λ q. refl)
+
+-- WAITS WITHOUT A NUMBER
+-- some test passes exactly when a member passes it
+module _ {A : Type 0} (q : A → Bool) where
+  any-some : (xs : List A) → any q xs ≡ true → (x : A) × List·Memᴰ x xs × (q x ≡ true)
+  unfolding any
+  any-some [] e = absurd (false≢true e)
+  any-some (x ∷ xs) e = go (q x) refl e (any-some xs)
+    where
+      go :
+          (b : Bool) → q x ≡ b → (b || any q xs) ≡ true → (any q xs ≡ true → (y : A) × List·Memᴰ y xs × (q y ≡ true)) →
+          (y : A) × List·Memᴰ y (x ∷ xs) × (q y ≡ true)
+      go true f e ih = (x, List·Memᴰ·head refl, f)
+      go false f e ih = let r = ih e in (r .0, List·Memᴰ·tail (r .1), r .2)
+
+  some-any : {x : A} (xs : List A) → List·Memᴰ x xs → q x ≡ true → any q xs ≡ true
+  unfolding any
+  some-any (y ∷ xs) (List·Memᴰ·head e) f = either-left (q y) (any q xs) (ap q (sym e) ∙ f)
+  some-any (y ∷ xs) (List·Memᴰ·tail m) f = either-right (q y) (any q xs) (some-any xs m f)
+
+-- task k has a global section whose wait has no number: none from zero to its period is at least the demand of the wait
+abbrev pub NoNumber : System → Task → Type 0
+NoNumber s k =
+    (l : Lock) × List·Memᴰ l (k .locks) × (global (s .mutexes) (l .m) ≡ true) × ((t : ℕ) → t ≤ k .period → ¬ (waitDemand s (k .v) (l .m) t ≤ t))
+
+-- a higher task of its VCPU has such a section
+abbrev pub HeldUp : System → Task → Type 0
+HeldUp s k = (h : Task) × List·Memᴰ h (s .tasks) × (h .v ≡ k .v) × (k .n < h .n) × NoNumber s h
+
+pub lacks-exactly : (s : System) (k : Task) → (lacksWait s k ≡ true) ↔ NoNumber s k
+unfolding lacksWait
+lacks-exactly s k = (
+  λ e.
+      let x = any-some _ (k .locks) e in
+      let l = x .0 in
+      let g = global (s .mutexes) (l .m) in
+      (l, x .1, both-left g _ (x .2), reports-late (waitAnswer s k l) (wait-answer-reports s k l) .0 (both-right g _ (x .2))),
+  λ q.
+      let l = q .0 in
+      some-any _ (k .locks) (q .1) (both _ _ (q .2) (reports-late (waitAnswer s k l) (wait-answer-reports s k l) .1 (q .3))),
+)
+
+pub held-exactly : (s : System) (k : Task) → (isHeld s k ≡ true) ↔ HeldUp s k
+unfolding isHeld
+held-exactly s k = (
+  λ e.
+      let x = any-some _ (s .tasks) e in
+      let h = x .0 in
+      let a = both-left (higherTask k h) _ (x .2) in
+      (h, x .1, eqb-true _ _ (both-left (eqb (h .v) (k .v)) _ a), ltb-true _ _ (both-right (eqb (h .v) (k .v)) _ a), lacks-exactly s h .0 (both-right (higherTask k h) _ (x .2))),
+  λ q.
+      some-any _ (s .tasks) (q .1) (both _ _ (both _ _ (eq-eqb _ _ (q .2)) (lt-ltb _ _ (q .3))) (lacks-exactly s (q .0) .1 (q .4))),
+)
+
+-- A CALL ANSWERS exactly when the tables are given and the row is there
+module _ {A : Type 0} (x un no : A) where
+  asked-yes : (g h : Bool) (z : A) → ¬ (un ≡ z) → ¬ (no ≡ z) → elim g [ true ↦ elim h [ true ↦ x | false ↦ un ] | false ↦ no ] ≡ z → (g ≡ true) × (h ≡ true) × (x ≡ z)
+  asked-yes true true z p q e = (refl, refl, e)
+  asked-yes true false z p q e = absurd (p e)
+  asked-yes false h z p q e = absurd (q e)
+
+  yes-asked : {g h : Bool} → g ≡ true → h ≡ true → elim g [ true ↦ elim h [ true ↦ x | false ↦ un ] | false ↦ no ] ≡ x
+  yes-asked p q = rw (p, q)
+
+not-row : (r : Refusal) (a : Answer) → ¬ (NoRow r ≡ Row a)
+not-row r a e = let z : _≡_ {A = ℕ} 0 1 = cc in omega arith
+
+not-task : (r : Refusal) (a : TaskAnswer) → ¬ (NoTaskRow r ≡ TaskRow a)
+not-task r a e = let z : _≡_ {A = ℕ} 0 1 = cc in omega arith
+
+not-figure : (r : Refusal) (x : ℕ) → ¬ (NoFigure r ≡ Figure x)
+not-figure r x e = let z : _≡_ {A = ℕ} 0 1 = cc in omega arith
+
+module _ (r : PlanRecord) (t : Tables) (v : ℕ) where
+  vcpu-answered :
+      (a : Answer) → vcpuAsked r t v ≡ Row a →
+      (isGiven r t ≡ true) × (hasVcpu (planOf r t .vcpus) v ≡ true) × (vcpuAnswer (planOf r t) (vcpuAt (planOf r t) v) ≡ a)
+  unfolding vcpuAsked vcpuRowOf
+  vcpu-answered a e =
+      let x = asked-yes _ _ _ _ _ (Row a) (not-row Unknown a) (not-row Foreign a) e in (x .0, x .1, let y = x .2 in cc)
+
+  pub vcpu-reports :
+      (a : Answer) → vcpuAsked r t v ≡ Row a →
+      Reports (vcpuDemand (planOf r t) (vcpuAt (planOf r t) v)) (vcpuAt (planOf r t) v .period) a
+  vcpu-reports a e = rw (← vcpu-answered a e .2) (vcpu-answer-reports (planOf r t) (vcpuAt (planOf r t) v))
+
+  -- no faultless call is refused
+  pub vcpu-answered-exactly :
+      ((a : Answer) × (vcpuAsked r t v ≡ Row a)) ↔ ((isGiven r t ≡ true) × (hasVcpu (planOf r t .vcpus) v ≡ true))
+  unfolding vcpuAsked vcpuRowOf
+  vcpu-answered-exactly = (
+    λ q. let x = vcpu-answered (q .0) (q .1) in (x .0, x .1),
+    λ q. (vcpuAnswer (planOf r t) (vcpuAt (planOf r t) v), yes-asked _ _ _ (q .0) (q .1)),
+  )
+
+module _ (r : PlanRecord) (t : Tables) (v n i : ℕ) where
+  wait-answered :
+      (a : Answer) → waitAsked r t v n i ≡ Row a →
+      (isGiven r t ≡ true) × (hasPlace (planOf r t) v n i ≡ true)
+      × (waitAnswer (planOf r t) (taskAt (planOf r t) v n) (lockAt (taskAt (planOf r t) v n) i) ≡ a)
+  unfolding waitAsked waitRowOf
+  wait-answered a e =
+      let x = asked-yes _ _ _ _ _ (Row a) (not-row Unknown a) (not-row Foreign a) e in (x .0, x .1, let y = x .2 in cc)
+
+  pub wait-reports :
+      (a : Answer) → waitAsked r t v n i ≡ Row a →
+      Reports (waitDemand (planOf r t) (taskAt (planOf r t) v n .v) (lockAt (taskAt (planOf r t) v n) i .m))
+      (taskAt (planOf r t) v n .period) a
+  wait-reports a e =
+      rw (← wait-answered a e .2)
+      (wait-answer-reports (planOf r t) (taskAt (planOf r t) v n) (lockAt (taskAt (planOf r t) v n) i))
+
+  -- task (v, n) is there, with a global section at its place i
+  place-both :
+      (hasPlace (planOf r t) v n i ≡ true)
+      ↔ ((hasTask (planOf r t) v n ≡ true) × (hasSection (planOf r t) (taskAt (planOf r t) v n) i ≡ true))
+  place-both = (λ e. (both-left (hasTask (planOf r t) v n) _ e, both-right (hasTask (planOf r t) v n) _ e), λ q. both _ _ (q .0) (q .1))
+
+  pub wait-answered-exactly :
+      ((a : Answer) × (waitAsked r t v n i ≡ Row a))
+      ↔ ((isGiven r t ≡ true) × (hasTask (planOf r t) v n ≡ true)
+      × (hasSection (planOf r t) (taskAt (planOf r t) v n) i ≡ true))
+  unfolding waitAsked waitRowOf
+  wait-answered-exactly = (
+    λ q. let x = wait-answered (q .0) (q .1) in let y = place-both .0 (x .1) in (x .0, y .0, y .1),
+    λ q. (
+      waitAnswer (planOf r t) (taskAt (planOf r t) v n) (lockAt (taskAt (planOf r t) v n) i),
+      yes-asked _ _ _ (q .0) (place-both .1 (q .1, q .2)),
+    ),
+  )
+
+  response-answered :
+      (x : ℕ) → responseAsked r t v n i ≡ Figure x →
+      (isGiven r t ≡ true) × (hasPlace (planOf r t) v n i ≡ true)
+      × (response (planOf r t) (taskAt (planOf r t) v n) (lockAt (taskAt (planOf r t) v n) i) ≡ x)
+  unfolding responseAsked responseRowOf
+  response-answered x e =
+      let y = asked-yes _ _ _ _ _ (Figure x) (not-figure Unknown x) (not-figure Foreign x) e in (y .0, y .1, let z = y .2 in cc)
+
+  -- a figure that is answered is the response of the section
+  pub response-reports :
+      (x : ℕ) → responseAsked r t v n i ≡ Figure x →
+      x ≡ response (planOf r t) (taskAt (planOf r t) v n) (lockAt (taskAt (planOf r t) v n) i)
+  response-reports x e = sym (response-answered x e .2)
+
+  pub response-answered-exactly :
+      ((x : ℕ) × (responseAsked r t v n i ≡ Figure x))
+      ↔ ((isGiven r t ≡ true) × (hasTask (planOf r t) v n ≡ true)
+      × (hasSection (planOf r t) (taskAt (planOf r t) v n) i ≡ true))
+  unfolding responseAsked responseRowOf
+  response-answered-exactly = (
+    λ q. let x = response-answered (q .0) (q .1) in let y = place-both .0 (x .1) in (x .0, y .0, y .1),
+    λ q. (
+      response (planOf r t) (taskAt (planOf r t) v n) (lockAt (taskAt (planOf r t) v n) i),
+      yes-asked _ _ _ (q .0) (place-both .1 (q .1, q .2)),
+    ),
+  )
+
+-- WHAT A TASK IS NAMED, by whether it lacks a wait and whether it is held
+abbrev named : Bool → Bool → Answer → TaskAnswer
+named b c a = elim b [ true ↦ NoWait | false ↦ elim c [ true ↦ Held | false ↦ Searched a ] ]
+
+module _ (a : Answer) where
+  named-nowait : (b c : Bool) → (named b c a ≡ NoWait) ↔ (b ≡ true)
+  named-nowait b c = (go b c, λ e. rw e)
+    where
+      go : (b c : Bool) → named b c a ≡ NoWait → b ≡ true
+      go true c e = refl
+      go false true e = absurd (let z : _≡_ {A = ℕ} 0 1 = cc in omega arith)
+      go false false e = absurd (let z : _≡_ {A = ℕ} 0 1 = cc in omega arith)
+
+  named-held : (b c : Bool) → (named b c a ≡ Held) ↔ ((b ≡ false) × (c ≡ true))
+  named-held b c = (go b c, λ q. rw (q .0, q .1))
+    where
+      go : (b c : Bool) → named b c a ≡ Held → (b ≡ false) × (c ≡ true)
+      go true c e = absurd (let z : _≡_ {A = ℕ} 0 1 = cc in omega arith)
+      go false true e = (refl, refl)
+      go false false e = absurd (let z : _≡_ {A = ℕ} 0 1 = cc in omega arith)
+
+  named-searched : (b c : Bool) (x : Answer) → (named b c a ≡ Searched x) ↔ ((b ≡ false) × (c ≡ false) × (a ≡ x))
+  named-searched b c x = (go b c, λ q. rw (q .0, q .1, q .2))
+    where
+      go : (b c : Bool) → named b c a ≡ Searched x → (b ≡ false) × (c ≡ false) × (a ≡ x)
+      go true c e = absurd (let z : _≡_ {A = ℕ} 0 1 = cc in omega arith)
+      go false true e = absurd (let z : _≡_ {A = ℕ} 0 1 = cc in omega arith)
+      go false false e = (refl, refl, cc)
+
+-- a test that says exactly whether P holds
+false-not : {P : Type 0} {b : Bool} → (b ≡ true) ↔ P → (b ≡ false) ↔ (¬ P)
+false-not {b} h = (λ e p. true≢false (sym (h .1 p) ∙ e), λ q. go b (λ e. q (h .0 e)))
+  where
+    go : (c : Bool) → ¬ (c ≡ true) → c ≡ false
+    go true q = absurd (q refl)
+    go false q = refl
+
+module _ (s : System) (k : Task) where
+  -- "A task is `nowait` if one of its own waits has no answer, else `held` if a higher task of its VCPU has such a wait"
+  answer-nowait : (taskAnswer s k ≡ NoWait) ↔ NoNumber s k
+  unfolding taskAnswer
+  answer-nowait =
+      let x = named-nowait _ (lacksWait s k) (isHeld s k) in
+      (λ e. lacks-exactly s k .0 (x .0 e), λ q. x .1 (lacks-exactly s k .1 q))
+
+  answer-held : (taskAnswer s k ≡ Held) ↔ ((¬ NoNumber s k) × HeldUp s k)
+  unfolding taskAnswer
+  answer-held =
+      let x = named-held _ (lacksWait s k) (isHeld s k) in (
+        λ e. let y = x .0 e in (false-not (lacks-exactly s k) .0 (y .0), held-exactly s k .0 (y .1)),
+        λ q. x .1 (false-not (lacks-exactly s k) .1 (q .0), held-exactly s k .1 (q .1)),
+      )
+
+  answer-searched :
+      (a : Answer) →
+      (taskAnswer s k ≡ Searched a)
+      ↔ ((¬ NoNumber s k) × (¬ HeldUp s k) × (solve (taskDemand s (remoteWaits s) k) (lengths k) (k .period) ≡ a))
+  unfolding taskAnswer
+  answer-searched a =
+      let x = named-searched _ (lacksWait s k) (isHeld s k) a in (
+        λ e. let y = x .0 e in (false-not (lacks-exactly s k) .0 (y .0), false-not (held-exactly s k) .0 (y .1), y .2),
+        λ q. x .1 (false-not (lacks-exactly s k) .1 (q .0), false-not (held-exactly s k) .1 (q .1), q .2),
+      )
+
+module _ (r : PlanRecord) (t : Tables) (v n : ℕ) where
+  task-answered :
+      (a : TaskAnswer) →
+      (taskAsked r t v n ≡ TaskRow a)
+      ↔ ((isGiven r t ≡ true) × (hasTask (planOf r t) v n ≡ true) × (taskAnswer (planOf r t) (taskAt (planOf r t) v n) ≡ a))
+  unfolding taskAsked taskRowOf
+  task-answered a = (
+    λ e. let x = asked-yes _ _ _ _ _ (TaskRow a) (not-task Unknown a) (not-task Foreign a) e in (x .0, x .1, let y = x .2 in cc),
+    λ q. yes-asked _ _ _ (q .0) (q .1) ∙ ap TaskRow (q .2),
+  )
+
+  pub task-answered-exactly :
+      ((a : TaskAnswer) × (taskAsked r t v n ≡ TaskRow a)) ↔ ((isGiven r t ≡ true) × (hasTask (planOf r t) v n ≡ true))
+  task-answered-exactly = (
+    λ q. let x = task-answered (q .0) .0 (q .1) in (x .0, x .1),
+    λ q. let a = taskAnswer (planOf r t) (taskAt (planOf r t) v n) in (a, task-answered a .1 (q .0, q .1, refl)),
+  )
+
+  -- a task that is searched rests on no wait without a number
+  pub task-reports :
+      (a : Answer) → taskAsked r t v n ≡ TaskRow (Searched a) →
+      (¬ NoNumber (planOf r t) (taskAt (planOf r t) v n)) × (¬ HeldUp (planOf r t) (taskAt (planOf r t) v n))
+      × Reports (taskDemand (planOf r t) (remoteWaits (planOf r t)) (taskAt (planOf r t) v n))
+      (taskAt (planOf r t) v n .period) a
+  task-reports a e =
+      let k = taskAt (planOf r t) v n in
+      let x = answer-searched (planOf r t) k a .0 (task-answered (Searched a) .0 e .2) in
+      (x .0, x .1, rw (← x .2) (task-search-reports (planOf r t) (remoteWaits (planOf r t)) k))
+
+  -- it is searched exactly when it rests on none
+  pub task-searched-exactly :
+      ((a : Answer) × (taskAsked r t v n ≡ TaskRow (Searched a)))
+      ↔ ((isGiven r t ≡ true) × (hasTask (planOf r t) v n ≡ true) × (¬ NoNumber (planOf r t) (taskAt (planOf r t) v n))
+      × (¬ HeldUp (planOf r t) (taskAt (planOf r t) v n)))
+  task-searched-exactly = (
+    λ q. let x = task-answered (Searched (q .0)) .0 (q .1) in let y = task-reports (q .0) (q .1) in (x .0, x .1, y .0, y .1),
+    λ q.
+        let k = taskAt (planOf r t) v n in
+        let a = solve (taskDemand (planOf r t) (remoteWaits (planOf r t)) k) (lengths k) (k .period) in
+        (a, task-answered (Searched a) .1 (q .0, q .1, answer-searched (planOf r t) k a .1 (q .2, q .3, refl))),
+  )
+
+  -- it is named `nowait` exactly when one of its own global sections has a wait without a number
+  pub task-nowait-exactly :
+      (taskAsked r t v n ≡ TaskRow NoWait)
+      ↔ ((isGiven r t ≡ true) × (hasTask (planOf r t) v n ≡ true) × NoNumber (planOf r t) (taskAt (planOf r t) v n))
+  task-nowait-exactly =
+      let k = taskAt (planOf r t) v n in (
+        λ e. let x = task-answered NoWait .0 e in (x .0, x .1, answer-nowait (planOf r t) k .0 (x .2)),
+        λ q. task-answered NoWait .1 (q .0, q .1, answer-nowait (planOf r t) k .1 (q .2)),
+      )
+
+  -- it is named `held` exactly when none of its own has, and a higher task of its VCPU has such a section
+  pub task-held-exactly :
+      (taskAsked r t v n ≡ TaskRow Held)
+      ↔ ((isGiven r t ≡ true) × (hasTask (planOf r t) v n ≡ true) × (¬ NoNumber (planOf r t) (taskAt (planOf r t) v n))
+      × HeldUp (planOf r t) (taskAt (planOf r t) v n))
+  task-held-exactly =
+      let k = taskAt (planOf r t) v n in (
+        λ e. let x = task-answered Held .0 e in let y = answer-held (planOf r t) k .0 (x .2) in (x .0, x .1, y .0, y .1),
+        λ q. task-answered Held .1 (q .0, q .1, answer-held (planOf r t) k .1 (q .2, q .3)),
+      )

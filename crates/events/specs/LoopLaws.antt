@@ -1,0 +1,174 @@
+-- Laws of the loops over event lines: one turn, the end, and what is written so far.
+use Prim.Native.Nat.{ℕ, suc, _+_, _*_, _-_, _≤_}
+use mathlib.Core.Path.{_≡_, refl, ap, sym, _∙_}
+use mathlib.Core.List.{List, [], _∷_, _++_, append-assoc, append-nil}
+use mathlib.Core.Bool.{true, false, true≢false}
+use native.Mathlib.Omega.{arith}
+use lib.ListN.{length, take, drop, length-append, length-take, length-drop, take-append-drop}
+use lib.Seq.{take-at, drop-at, drop-drop, length-take-le}
+use Rattle.laws.specs.Bytes.{pieces, isNil}
+use Rattle.laws.specs.BytesLaws.{pieces-some}
+use Rattle.laws.specs.Fields.{before}
+use Rattle.laws.specs.Steps.{before-le, pieces-next, pieces-end}
+use Rattle.laws.specs.Sums.{flat}
+use Rattle.model.specs.Limits.{lf}
+use Rattle.model.specs.declared.Refusal.the-variants.{Shape}
+use Rattle.listing.specs.Listing.{line}
+use Rattle.writers.specs.Wrote.{Wrote, Sized}
+use Rattle.writers.specs.WroteLaws.{wrote-as}
+use Rattle.lockboard.specs.Facts.{Facts}
+use Rattle.lockboard.specs.declared.Board.{Board}
+use Rattle.lockboard.specs.declared.BoardAnswer.{BoardAnswer}
+use Rattle.lockboard.specs.declared.BoardAnswer.the-variants.{Refused}
+use Rattle.lockboard.specs.declared.Outcome.{Outcome}
+use Rattle.lockboard.specs.Events.{onLine, atEnd, lineAnswers, answerFields, answersText}
+use Rattle.events.specs.Parts.{endText}
+use Rattle.events.specs.PartsLaws.{end-none, end-some}
+
+-- the answers to the lines of s, on the board b
+abbrev pub repliesTo : Facts → Board → List ℕ → List ℕ
+repliesTo F b s = answersText (lineAnswers F b (pieces lf s))
+
+pub end-text : (l : List ℕ) → answersText (atEnd l) ≡ endText (length l)
+unfolding answersText flat
+end-text [] = sym (end-none 0 refl)
+end-text (x ∷ l) =
+    append-nil (line (answerFields (Refused Shape))) ∙ sym (end-some (suc (length l)) (λ e. omega arith) (Refused Shape) refl)
+
+pub lines-last : (F : Facts) (b : Board) (l : List ℕ) → lineAnswers F b (l ∷ []) ≡ atEnd l
+unfolding lineAnswers
+lines-last F b l = refl
+
+pub lines-more :
+    (F : Facts) (b : Board) (l : List ℕ) (ls : List (List ℕ)) → isNil ls ≡ false →
+    lineAnswers F b (l ∷ ls) ≡ onLine F b l .answer ∷ lineAnswers F (onLine F b l .board) ls
+unfolding lineAnswers
+lines-more F b l [] h = absurd (true≢false h)
+lines-more F b l (m ∷ ls) h = refl
+
+pub text-more : (a : BoardAnswer) (more : List BoardAnswer) → answersText (a ∷ more) ≡ line (answerFields a) ++ answersText more
+unfolding answersText flat
+text-more a more = refl
+
+-- ONE LINE: r is what is left of s from `at` on, and k its bytes before the next LF
+module _ (s : List ℕ) (at k : ℕ) (r : List ℕ) (er : r ≡ drop at s) (ek : k ≡ length (before lf r)) where
+  cut-at : k ≡ length (before lf (drop at s))
+  cut-at = ek ∙ ap (λ x. length (before lf x)) er
+
+  rest-long : length r ≡ length s - at
+  rest-long = ap length er ∙ length-drop at s
+
+  pub line-fits : (k ≡ length r → ⊥) → at + k + 1 ≤ length s
+  line-fits h = omega (arith, before-le lf r, ek, rest-long, h)
+
+  module _ (F : Facts) (b : Board) where
+    pub replies-last : at ≤ length s → k ≡ length r → repliesTo F b (drop at s) ≡ endText k
+    replies-last l h =
+        ap (λ ls. answersText (lineAnswers F b ls)) (pieces-end lf s at k cut-at (omega (arith, rest-long)))
+        ∙ ap answersText (lines-last F b (drop at s))
+        ∙ end-text (drop at s)
+        ∙ ap endText (sym (h ∙ ap length er))
+
+    pub replies-next :
+        (k ≡ length r → ⊥) → (o : Outcome) → o ≡ onLine F b (take k r) →
+        repliesTo F b (drop at s) ≡ line (answerFields (o .answer)) ++ repliesTo F (o .board) (drop (at + k + 1) s)
+    replies-next h o eo =
+        ap (λ ls. answersText (lineAnswers F b ls)) (pieces-next lf s at k cut-at (omega (arith, line-fits h)))
+        ∙ ap answersText (lines-more F b (take k (drop at s)) (pieces lf (drop (at + k + 1) s)) (pieces-some lf (drop (at + k + 1) s)))
+        ∙ text-more _ _
+        ∙ ap (λ p. line (answerFields (p .answer)) ++ repliesTo F (p .board) (drop (at + k + 1) s)) (sym (eo ∙ ap (λ x. onLine F b (take k x)) er))
+
+-- WHAT IS WRITTEN SO FAR: n bytes, of which with those that are left the whole is made
+pub record Put (whole o₀ o left : List ℕ) (n : ℕ) : Type 0 where
+  pub text : List ℕ
+  pub wrote : Wrote text o₀ o n
+  pub is : whole ≡ text ++ left
+
+pub put-none : {whole : List ℕ} (o left : List ℕ) → whole ≡ left → Put whole o o left 0
+put-none o left e = record { text = []; wrote = record { count = refl; bytes = refl }; is = e }
+
+-- the first n bytes as they are
+pub wrote-start : (o : List ℕ) (n : ℕ) → n ≤ length o → Wrote (take n o) o o n
+wrote-start o n h =
+    let e : length (take n o) ≡ n = length-take-le n o h in
+    record { count = sym e; bytes = sym (ap (λ m. take n o ++ drop m o) e ∙ take-append-drop n o) }
+
+pub start-fits : (o t : List ℕ) (n : ℕ) → n + length t ≤ length o → length (take n o ++ t) ≤ length o
+start-fits o t n h = rw (length-append, length-take) (omega arith)
+
+pub room-as : {t u : List ℕ} {m : ℕ} (n : ℕ) → t ≡ u → n + length t ≤ m → n + length u ≤ m
+room-as n e h = rw e at h
+
+-- a buffer keeps its length
+pub wrote-long : {text o₀ o : List ℕ} {n : ℕ} → length text ≤ length o₀ → Wrote text o₀ o n → length o ≡ length o₀
+wrote-long h w = ap length (w .bytes) ∙ rw (length-append, length-drop) (omega arith)
+
+-- nothing more is written
+pub wrote-nothing : (o t : List ℕ) (n : ℕ) → n + length t ≤ length o → t ≡ [] → Wrote (take n o ++ t) o o n
+wrote-nothing o t n h e = wrote-as (ap (λ t. take n o ++ t) e ∙ append-nil (take n o)) (wrote-start o n (omega arith))
+
+-- a text behind the first n bytes, where these are written
+wrote-more : {o₀ o p text : List ℕ} {n m : ℕ} (t : List ℕ) → Wrote text o₀ o n → Wrote (take n o ++ t) o p m → Wrote (text ++ t) o₀ p m
+wrote-more {o₀} {o} {p} {text} {n} {m} t w x =
+    let e : take n o ≡ text = ap (take n) (w .bytes) ∙ take-at text (drop (length text) o₀) n (sym (w .count)) in
+    let d : drop (length text) o ≡ drop (length text) o₀ =
+    ap (drop (length text)) (w .bytes) ∙ drop-at text (drop (length text) o₀) (length text) refl in
+    let f : drop (length text + length t) o ≡ drop (length text + length t) o₀ =
+    sym (drop-drop (length t) (length text) o) ∙ ap (drop (length t)) d ∙ drop-drop (length t) (length text) o₀ in
+    record {
+      count = x .count ∙ ap (λ y. length (y ++ t)) e;
+      bytes =
+          x .bytes
+          ∙ ap (λ y. (y ++ t) ++ drop (length (y ++ t)) o) e
+          ∙ ap (λ l. (text ++ t) ++ drop l o) (length-append text t)
+          ∙ ap (λ y. (text ++ t) ++ y) f
+          ∙ ap (λ l. (text ++ t) ++ drop l o₀) (sym (length-append text t));
+    }
+
+module _ {whole o₀ o left : List ℕ} {n : ℕ} (h : length whole ≤ length o₀) (p : Put whole o₀ o left n) where
+  same-room : length o ≡ length o₀
+  same-room =
+      let e : length whole ≡ length (p .text) + length left = ap length (p .is) ∙ length-append (p .text) left in
+      wrote-long (omega arith) (p .wrote)
+
+  module _ (t u : List ℕ) (e : left ≡ t ++ u) where
+    -- what comes next has room
+    pub put-room : n + length t ≤ length o
+    put-room =
+        let a : length whole ≡ length (p .text) + length left = ap length (p .is) ∙ length-append (p .text) left in
+        let b : length left ≡ length t + length u = ap length e ∙ length-append t u in
+        let c = p .wrote .count in
+        let d = same-room in omega arith
+
+    pub put-more : {q : List ℕ} {m : ℕ} → Wrote (take n o ++ t) o q m → Put whole o₀ q u m
+    put-more w =
+        record { text = p .text ++ t; wrote = wrote-more t (p .wrote) w; is = p .is ∙ ap (λ y. p .text ++ y) e ∙ sym (append-assoc (p .text) t u) }
+
+  module _ (t : List ℕ) (e : left ≡ t) where
+    all : left ≡ t ++ []
+    all = e ∙ sym (append-nil t)
+
+    pub last-room : n + length t ≤ length o
+    last-room = put-room t [] all
+
+    pub put-last : {q : List ℕ} {m : ℕ} → Wrote (take n o ++ t) o q m → Wrote whole o₀ q m
+    put-last w = let p = put-more t [] all w in wrote-as (p .is ∙ append-nil (p .text)) (p .wrote)
+
+-- THE SIZE SO FAR, n bytes of `at` bytes of lines
+pub record Sizes (whole left : List ℕ) (n at : ℕ) : Type 0 where
+  pub is : length whole ≡ n + length left
+  pub small : n ≤ 60 * at
+
+module _ {whole left : List ℕ} {n at : ℕ} (s : Sizes whole left n at) where
+  pub sizes-more : (t u : List ℕ) {x : ℕ} (k : ℕ) → left ≡ t ++ u → Sized t 60 x → Sizes whole u (n + x) (at + k + 1)
+  sizes-more t u k e z =
+      let b : length left ≡ length t + length u = ap length e ∙ length-append t u in
+      let c = z .is in let d = z .small in let f = s .is in let g = s .small in
+      record { is = omega arith; small = omega arith }
+
+  pub sizes-last : (t : List ℕ) {x : ℕ} → left ≡ t → Sized t 60 x → n + x ≡ length whole
+  sizes-last t e z = let b = ap length e in let c = z .is in let f = s .is in omega arith
+
+  -- and with one line more it is a small number
+  pub sizes-small : {t : List ℕ} {x l : ℕ} → at ≤ l → l ≤ 65536 → Sized t 60 x → n + x ≤ 4000000
+  sizes-small i j z = let d = z .small in let g = s .small in omega arith
