@@ -85,13 +85,13 @@ module _ {F : Facts} {b : Board} (v : ℕ) (i : InV v) where
   wait-waiters b′ n m s j p q u w x k a c l g =
       ⊎-elim
       (λ e.
-          let z = seat-one w x v n a c i j e in
-          let h : waitOf (withWait b′ v n m) w x ≡ m = rw (z .0, z .1) (wait-new s v n m i j) in
-          let t : waitOf b′ w x ≡ waitOf b′ v n = rw (z .0, z .1) in
-          (λ y. absurd (q k l g (sym h ∙ y)), λ y. absurd (p k l g (sym t ∙ u .waiters-same w x k a c l g .1 y))))
+      let z = seat-one w x v n a c i j e in
+      let h : waitOf (withWait b′ v n m) w x ≡ m = rw (z .0, z .1) (wait-new s v n m i j) in
+      let t : waitOf b′ w x ≡ waitOf b′ v n = rw (z .0, z .1) in
+      (λ y. absurd (q k l g (sym h ∙ y)), λ y. absurd (p k l g (sym t ∙ u .waiters-same w x k a c l g .1 y))))
       (λ ne.
-          let h = wait-else b′ v n m w x i j a c ne in
-          (λ y. u .waiters-same w x k a c l g .0 (sym h ∙ y), λ y. h ∙ u .waiters-same w x k a c l g .1 y))
+      let h = wait-else b′ v n m w x i j a c ne in
+      (λ y. u .waiters-same w x k a c l g .0 (sym h ∙ y), λ y. h ∙ u .waiters-same w x k a c l g .1 y))
       (same-or-not (seat w x) (seat v n))
 
   wait-untouched : (b′ : Board) (n m : ℕ) → Shaped b′ → InN n → NotGlobal F (waitOf b′ v n) → NotGlobal F m → Untouched F v b b′ → Untouched F v b (withWait b′ v n m)
