@@ -1,0 +1,184 @@
+-- The board over lent tables: from a fresh board no event is answered 9, 9 is answered exactly where a test fails, and a refusal leaves the board as it was.
+use Prim.Native.Nat.{ℕ}
+use mathlib.Core.Path.{_≡_, refl, sym, _∙_}
+use mathlib.Core.Bool.{true, false}
+use mathlib.Core.List.{List, [], _∷_}
+use mathlib.Core.Logic.{_⊎_, inl, inr, ⊎-elim, _↔_}
+use native.Mathlib.Omega.{arith}
+use lib.ListN.{take}
+use Rattle.laws.specs.Sums.{Each}
+use Rattle.model.specs.declared.Refusal.{Refusal}
+use Rattle.model.specs.declared.Refusal.the-variants.{Foreign}
+use Rattle.model.specs.declared.Fault.{Fault}
+use Rattle.model.specs.declared.Fault.the-variants.{Clear, Bad}
+use Rattle.tables.specs.declared.PlanRecord.{PlanRecord}
+use Rattle.tables.specs.Layout.{Tables}
+use Rattle.tables.specs.Given.{planIn, isGiven}
+use Rattle.tables.specs.GivenLaws.{given-plan}
+use Rattle.figures.specs.Tabled.{systemIn}
+use Rattle.lockboard.specs.Facts.{Facts}
+use Rattle.lockboard.specs.View.{viewLength, factsIn}
+use Rattle.lockboard.specs.declared.Board.{Board}
+use Rattle.lockboard.specs.declared.Event.{Event}
+use Rattle.lockboard.specs.declared.Event.the-variants.{Ask, Free, Use, Top, Show}
+use Rattle.lockboard.specs.declared.BoardAnswer.{BoardAnswer}
+use Rattle.lockboard.specs.declared.BoardAnswer.the-variants.{Refused}
+use Rattle.lockboard.specs.declared.Outcome.{Outcome}
+use Rattle.lockboard.specs.Board.{fresh, refused, good, step, stepOn, answered, mayHave, asked, freed, freedGlobal, freedLocal, used, topped, shown, askFault, freeFault, useFault, topFault, showFault}
+use Rattle.lockboard.specs.Events.{answers}
+use Rattle.keeps.specs.Cases.{never, clash, bool-cases}
+use Rattle.keeps.specs.Fair.{Fair}
+use Rattle.keeps.specs.FairLaws.{fair}
+use Rattle.keeps.specs.Shaped.{Shaped, fresh-shaped}
+use Rattle.keeps.specs.Keeps.{step-keeps}
+use Rattle.keeps.specs.Runs as runs
+use Rattle.keeps.specs.NotNine.{step-not-nine}
+use Rattle.keeps.specs.Tested.{answersOn, fresh-answers-on}
+use Rattle.views.specs.ViewOf.{viewOf}
+use Rattle.views.specs.TableLaws.{given-facts}
+use Rattle.boards.specs.Entered.{FreshBoard, Made, NoBoard, factsFrom, noBoard, freshFor, stepFor}
+
+-- UNIQUENESS: a contract that is an equation with a definition allows one result
+pub once : {A : Type 0} {a b x : A} → a ≡ x → b ≡ x → a ≡ b
+once e f = e ∙ sym f
+
+-- an answer that is not 9
+abbrev pub NotNine : BoardAnswer → Type 0
+NotNine a = a ≡ Refused Foreign → ⊥
+
+-- an outcome that is refused has the board b
+abbrev Leaves : Board → Outcome → Type 0
+Leaves b o = (x : Refusal) → o .answer ≡ Refused x → o .board ≡ b
+
+-- an answer that is no refusal
+abbrev Told : BoardAnswer → Type 0
+Told a = (x : Refusal) → a ≡ Refused x → ⊥
+
+answered-leaves : (b : Board) (f : Fault) (o : Outcome) → Told (o .answer) → Leaves b (answered b f o)
+answered-leaves b Clear o h x e = absurd (h x e)
+answered-leaves b (Bad r) o h x e = refl
+
+-- a refused event leaves the board as it was
+step-leaves : (F : Facts) (b : Board) (e : Event) → Leaves b (step F b e)
+unfolding step asked freed freedGlobal freedLocal used topped
+step-leaves F b (Ask v n m) =
+    answered-leaves b (askFault F b v n m) (asked F b v n m)
+    (⊎-elim (λ h. rw h (λ x e. let z : _≡_ {A = ℕ} 0 1 = cc in omega arith)) (λ h. rw h (λ x e. let z : _≡_ {A = ℕ} 0 1 = cc in omega arith)) (bool-cases (mayHave F b v n m)))
+step-leaves F b (Free v n m) =
+    answered-leaves b (freeFault F b v n m) (freed F b v m)
+    (⊎-elim (λ h. rw h (λ x e. let z : _≡_ {A = ℕ} 0 1 = cc in omega arith)) (λ h. rw h (λ x e. let z : _≡_ {A = ℕ} 0 1 = cc in omega arith)) (bool-cases (F .global m)))
+step-leaves F b (Use v t) = answered-leaves b (useFault F b v t) (used F b v t) (λ x e. let z : _≡_ {A = ℕ} 0 1 = cc in omega arith)
+step-leaves F b (Top v) = answered-leaves b (topFault F v) (topped F b v) (λ x e. let z : _≡_ {A = ℕ} 0 1 = cc in omega arith)
+step-leaves F b (Show v n) = answered-leaves b (showFault F v n) (shown F b v n) (λ x e. let z : _≡_ {A = ℕ} 0 1 = cc in omega arith)
+
+-- the test for 9 of the board
+pub tested-good : (F : Facts) (b : Board) (e : Event) → good F b ≡ true → stepOn F b e ≡ step F b e
+tested-good F b e g = runs.step-on F b g e
+
+pub tested-other : (F : Facts) (b : Board) (e : Event) → good F b ≡ false → stepOn F b e ≡ refused b Foreign
+unfolding stepOn
+tested-other F b e g = rw g
+
+step-on-leaves : (F : Facts) (b : Board) (e : Event) → Leaves b (stepOn F b e)
+unfolding stepOn
+step-on-leaves F b e = ⊎-elim (λ h. rw h (step-leaves F b e)) (λ h. rw h (λ x q. refl)) (bool-cases (good F b))
+
+-- 9 on a board is exactly what its test says
+step-on-nine : (F : Facts) (b : Board) (e : Event) → (stepOn F b e .answer ≡ Refused Foreign) ↔ (good F b ≡ false)
+unfolding stepOn
+step-on-nine F b e = ⊎-elim
+    (λ h. rw h ((λ q. absurd (step-not-nine F b e q)), (λ q. absurd (never q))))
+    (λ h. rw h ((λ q. refl), (λ q. refl)))
+    (bool-cases (good F b))
+
+answers-not-nine : (F : Facts) (b : Board) (es : List Event) → Each NotNine (answers F b es)
+unfolding answers
+answers-not-nine F b [] = tt
+answers-not-nine F b (e ∷ es) = (step-not-nine F b e, answers-not-nine F (step F b e .board) es)
+
+module _ (r : PlanRecord) (t : Tables) where
+  -- the answers to a list of events, one after another
+  unfoldable pub runFor : Board → List Event → List BoardAnswer
+  runFor b [] = []
+  runFor b (e ∷ es) = stepFor r t b e .answer ∷ runFor (stepFor r t b e .board) es
+
+  -- UNIQUENESS at the two calls
+  pub fresh-once : {a b : FreshBoard} → a ≡ freshFor r t → b ≡ freshFor r t → a ≡ b
+  fresh-once = once
+
+  pub step-once : {a c : Outcome} (b : Board) (e : Event) → a ≡ stepFor r t b e → c ≡ stepFor r t b e → a ≡ c
+  step-once b e = once
+
+  -- TABLES THAT NO ACCEPTED PLAN GIVES
+  pub fresh-other : isGiven r t ≡ false → freshFor r t ≡ record { answer = NoBoard Foreign; board = noBoard }
+  unfolding freshFor
+  fresh-other g = rw (g, freshFor)
+
+  pub step-other : isGiven r t ≡ false → (b : Board) (e : Event) → stepFor r t b e ≡ refused b Foreign
+  unfolding stepFor
+  step-other g b e = rw (g, stepFor)
+
+  -- TABLES THAT AN ACCEPTED PLAN GIVES
+  pub fresh-given : isGiven r t ≡ true → freshFor r t ≡ record { answer = Made; board = fresh (factsFrom r t) }
+  unfolding freshFor
+  fresh-given g = rw (g, freshFor)
+
+  pub step-given : isGiven r t ≡ true → (b : Board) (e : Event) → stepFor r t b e ≡ stepOn (factsFrom r t) b e
+  unfolding stepFor
+  step-given g b e = rw (g, stepFor)
+
+  pub fair-from : isGiven r t ≡ true → Fair (factsFrom r t)
+  fair-from g = fair (planIn r t) (given-plan r t g .0)
+
+  -- the facts in the view that is written are the plan's
+  pub filled-from : isGiven r t ≡ true → (view : List ℕ) → take viewLength view ≡ viewOf (systemIn r (t .vcpus) (t .mutexes) (t .tasks)) →
+      factsIn (r .policy) (r .overrun) view ≡ factsFrom r t
+  filled-from g view e = let p = given-plan r t g in given-facts view (p .0) (p .1) e
+
+  -- MADE EXACTLY where an accepted plan gives the tables
+  pub fresh-made-exactly : (freshFor r t .answer ≡ Made) ↔ (isGiven r t ≡ true)
+  fresh-made-exactly = ⊎-elim
+      (λ g. rw (fresh-given g) ((λ q. g), (λ q. refl)))
+      (λ g. rw (fresh-other g) ((λ q. absurd (let z : _≡_ {A = ℕ} 0 1 = cc in omega arith)), (λ q. absurd (clash q g))))
+      (bool-cases (isGiven r t))
+
+  -- a board that is made is of given tables, and is the board at first of the plan's facts
+  pub fresh-of : freshFor r t .answer ≡ Made → (isGiven r t ≡ true) × (freshFor r t .board ≡ fresh (factsFrom r t))
+  fresh-of e = let g = fresh-made-exactly .0 e in (g, rw (fresh-given g))
+
+  pub fresh-good : freshFor r t .answer ≡ Made → good (factsFrom r t) (freshFor r t .board) ≡ true
+  fresh-good e = let h = fresh-of e in rw (h .1) (runs.fresh-good (fair-from (h .0)))
+
+  pub fresh-is-shaped : freshFor r t .answer ≡ Made → Shaped (freshFor r t .board)
+  fresh-is-shaped e = rw (fresh-of e .1) (fresh-shaped (factsFrom r t))
+
+  -- an event keeps the conditions for 9 (a board's lists have the lengths of its arrays)
+  pub step-good : {b : Board} → isGiven r t ≡ true → Shaped b → good (factsFrom r t) b ≡ true → (e : Event) → good (factsFrom r t) (stepFor r t b e .board) ≡ true
+  step-good {b} g s h e = rw (step-given g b e, runs.step-on (factsFrom r t) b h e) (step-keeps (fair-from g) s h e)
+
+  run-on : isGiven r t ≡ true → (b : Board) (es : List Event) → runFor b es ≡ answersOn (factsFrom r t) b es
+  unfolding runFor answersOn
+  run-on g b [] = refl
+  run-on g b (e ∷ es) = let ih = run-on g (stepOn (factsFrom r t) b e .board) es in rw (step-given g b e, ih)
+
+  -- event after event from the board that is made: the answers are those of the board's own rules
+  pub run-answers : freshFor r t .answer ≡ Made → (es : List Event) → runFor (freshFor r t .board) es ≡ answers (factsFrom r t) (freshFor r t .board) es
+  run-answers e es = let h = fresh-of e in run-on (h .0) (freshFor r t .board) es ∙ rw (h .1) (fresh-answers-on (fair-from (h .0)) es)
+
+  -- so that none is 9
+  pub never-nine : freshFor r t .answer ≡ Made → (es : List Event) → Each NotNine (runFor (freshFor r t .board) es)
+  never-nine e es = rw (run-answers e es) (answers-not-nine (factsFrom r t) (freshFor r t .board) es)
+
+  -- 9 EXACTLY where no accepted plan gives the tables, or the board breaks a condition
+  pub foreign-exactly : (b : Board) (e : Event) → (stepFor r t b e .answer ≡ Refused Foreign) ↔ ((isGiven r t ≡ false) ⊎ (good (factsFrom r t) b ≡ false))
+  foreign-exactly b e = ⊎-elim
+      (λ g. rw (step-given g b e) ((λ q. inr (step-on-nine (factsFrom r t) b e .0 q)), ⊎-elim (λ f. absurd (clash g f)) (λ f. step-on-nine (factsFrom r t) b e .1 f)))
+      (λ g. ((λ q. inl g), (λ q. rw (step-other g b e))))
+      (bool-cases (isGiven r t))
+
+  -- REFUSED, the board is as it was
+  pub refused-leaves : (b : Board) (e : Event) (x : Refusal) → stepFor r t b e .answer ≡ Refused x → stepFor r t b e .board ≡ b
+  refused-leaves b e = ⊎-elim
+      (λ g. rw (step-given g b e) (step-on-leaves (factsFrom r t) b e))
+      (λ g. rw (step-other g b e) (λ x q. refl))
+      (bool-cases (isGiven r t))
