@@ -1,0 +1,4 @@
+pub mod Filled
+pub mod FilledLaws
+pub mod Asked
+pub mod AskedLaws

@@ -1,0 +1,4 @@
+pub mod Read
+pub mod ReadLaws
+pub mod Texts
+pub mod TextLaws

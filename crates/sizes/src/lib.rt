@@ -1,0 +1,211 @@
+// A plan's answers read back from lent slices, and the size of its listing.
+use figures::TaskAnswer;
+use search::Answer;
+use tables::PlanRecord;
+ghost use mathlib.Core.Path.{_≡_};
+ghost use Prim.Native.Nat.{_+_, _*_, _<_, _≤_};
+ghost use lib.ListN.{length};
+ghost use Rattle.laws.specs.Sums.{flat, all};
+ghost use Rattle.laws.specs.Rows.{rows};
+ghost use Rattle.tables.specs.Layout.{cell, vcpuRow, lockRow, taskRow};
+ghost use Rattle.figures.specs.Tabled.{Fit, systemIn};
+ghost use Rattle.figures.specs.Answers.{allFit};
+ghost use Rattle.listing.specs.Listing.{vcpuLine, waitLines, taskLines, rising, listing};
+ghost use Rattle.writers.specs.Wrote.{Sized};
+ghost use Rattle.order.specs.Ordered.{Ordered};
+ghost use Rattle.sizes.specs.Read.{answerOf, taskAnswerOf, answerIn, taskAnswerIn, fitsIn, VcpuAnswersIn, WaitAnswersIn, TaskAnswersIn, AnswersIn};
+ghost use Rattle.sizes.specs.Texts.{placeText};
+
+fn answer_of(k: u64, w: u64, n: u64) -> Answer
+    ensures { λ a. ⌜ a ≡ answerOf k w n ⌝ }
+{
+    if k == 1 {
+        Answer::Fits { w, rounds: n }
+    } else {
+        Answer::Late { rounds: n }
+    }
+}
+
+fn task_answer_of(k: u64, w: u64, n: u64) -> TaskAnswer
+    ensures { λ a. ⌜ a ≡ taskAnswerOf k w n ⌝ }
+{
+    if k == 2 {
+        return TaskAnswer::NoWait;
+    }
+    if k == 3 {
+        return TaskAnswer::Held;
+    }
+    let a = answer_of(k, w, n);
+    TaskAnswer::Searched(a)
+}
+
+// The answer at place k.
+pub fn answer_at(xs: &[u64], k: usize) -> Answer
+    requires { ⌜ k * 3 + 3 ≤ length (now xs) ⌝ }
+    ensures { λ a. ⌜ a ≡ answerIn (now (xs .entry)) k ⌝ }
+{
+    let x = xs[k * 3];
+    let y = xs[k * 3 + 1];
+    let z = xs[k * 3 + 2];
+    answer_of(x, y, z)
+}
+
+// The task's answer at place k.
+pub fn task_answer_at(xs: &[u64], k: usize) -> TaskAnswer
+    requires { ⌜ k * 3 + 3 ≤ length (now xs) ⌝ }
+    ensures { λ a. ⌜ a ≡ taskAnswerIn (now (xs .entry)) k ⌝ }
+{
+    let x = xs[k * 3];
+    let y = xs[k * 3 + 1];
+    let z = xs[k * 3 + 2];
+    task_answer_of(x, y, z)
+}
+
+// Are the first n answers all fits?
+fn rows_fit(xs: &[u64], n: usize) -> bool
+    requires { ⌜ n * 3 ≤ length (now xs) ⌝ }
+    ensures { λ b. ⌜ b ≡ all (fitsIn (now (xs .entry))) (rows n (λ k. k)) ⌝ }
+{
+    let mut k = 0;
+    while k < n {
+        let b = xs[k * 3] == 1;
+        if !b {
+            return false;
+        }
+        k += 1;
+    }
+    true
+}
+
+// Do all VCPUs and tasks fit?
+pub fn all_fit(r: PlanRecord, vt: &[u64], mt: &[u64], ts: &[u64], va: &[u64], ta: &[u64]) -> bool
+    requires { ⌜ Fit r (now vt) (now mt) (now ts) × VcpuAnswersIn r (now vt) (now mt) (now ts) (now va) × TaskAnswersIn r (now vt) (now mt) (now ts) (now ta) ⌝ }
+    ensures { λ b. ⌜ b ≡ allFit (systemIn r (now (vt .entry)) (now (mt .entry)) (now (ts .entry))) ⌝ }
+{
+    rows_fit(va, r.vcpus) & rows_fit(ta, r.tasks)
+}
+
+fn size_vcpu(r: PlanRecord, vt: &[u64], mt: &[u64], ts: &[u64], va: &[u64], a: usize) -> usize
+    requires { ⌜ Fit r (now vt) (now mt) (now ts) × VcpuAnswersIn r (now vt) (now mt) (now ts) (now va) × (a < r .vcpus) ⌝ }
+    ensures { λ x. ⌜ Sized (vcpuLine (systemIn r (now (vt .entry)) (now (mt .entry)) (now (ts .entry))) (vcpuRow (now (vt .entry)) a)) 75 x ⌝ }
+{
+    let v = figures::vcpu_cell(r, vt, mt, ts, a, 0);
+    let x = answer_at(va, a);
+    writers::vcpu_size(v, x)
+}
+
+fn size_vcpus(r: PlanRecord, vt: &[u64], mt: &[u64], ts: &[u64], va: &[u64]) -> usize
+    requires { ⌜ Fit r (now vt) (now mt) (now ts) × VcpuAnswersIn r (now vt) (now mt) (now ts) (now va) ⌝ }
+    ensures { λ x. ⌜ Sized (flat (vcpuLine (systemIn r (now (vt .entry)) (now (mt .entry)) (now (ts .entry)))) (systemIn r (now (vt .entry)) (now (mt .entry)) (now (ts .entry)) .vcpus)) 1200 x ⌝ }
+{
+    let n = r.vcpus;
+    let mut s = 0;
+    let mut a = 0;
+    while a < n {
+        let x = size_vcpu(r, vt, mt, ts, va, a);
+        s = s + x;
+        a += 1;
+    }
+    s
+}
+
+fn size_wait(
+    r: PlanRecord,
+    vt: &[u64],
+    mt: &[u64],
+    ts: &[u64],
+    wa: &[u64],
+    i: usize,
+    j: usize,
+) -> usize
+    requires { ⌜ Fit r (now vt) (now mt) (now ts) × WaitAnswersIn r (now vt) (now mt) (now ts) (now wa) × (i < r .tasks) × (j < 8) × (j < cell (now ts) 29 i 4) ⌝ }
+    ensures { λ x. ⌜ Sized (placeText (systemIn r (now (vt .entry)) (now (mt .entry)) (now (ts .entry))) (taskRow (now (ts .entry)) i) (lockRow (now (ts .entry)) i) j) 110 x ⌝ }
+{
+    let m = figures::lock_cell(r, vt, mt, ts, i, j, 0);
+    if !figures::is_global(r, vt, mt, ts, m) {
+        return 0;
+    }
+    let v = figures::task_cell(r, vt, mt, ts, i, 0);
+    let n = figures::task_cell(r, vt, mt, ts, i, 1);
+    let x = answer_at(wa, i * 8 + j);
+    writers::wait_size(v, n, (j + 1) as u64, x)
+}
+
+fn size_waits(r: PlanRecord, vt: &[u64], mt: &[u64], ts: &[u64], wa: &[u64], i: usize) -> usize
+    requires { ⌜ Fit r (now vt) (now mt) (now ts) × WaitAnswersIn r (now vt) (now mt) (now ts) (now wa) × (i < r .tasks) ⌝ }
+    ensures { λ x. ⌜ Sized (waitLines (systemIn r (now (vt .entry)) (now (mt .entry)) (now (ts .entry))) (taskRow (now (ts .entry)) i) 1 (taskRow (now (ts .entry)) i .locks)) 880 x ⌝ }
+{
+    let n = figures::lock_count(r, vt, mt, ts, i);
+    let mut s = 0;
+    let mut j = 0;
+    while j < n {
+        let x = size_wait(r, vt, mt, ts, wa, i, j);
+        s = s + x;
+        j += 1;
+    }
+    s
+}
+
+fn size_task(
+    r: PlanRecord,
+    vt: &[u64],
+    mt: &[u64],
+    ts: &[u64],
+    wa: &[u64],
+    ta: &[u64],
+    i: usize,
+) -> usize
+    requires { ⌜ Fit r (now vt) (now mt) (now ts) × WaitAnswersIn r (now vt) (now mt) (now ts) (now wa) × TaskAnswersIn r (now vt) (now mt) (now ts) (now ta) × (i < r .tasks) ⌝ }
+    ensures { λ x. ⌜ Sized (taskLines (systemIn r (now (vt .entry)) (now (mt .entry)) (now (ts .entry))) (taskRow (now (ts .entry)) i)) 976 x ⌝ }
+{
+    let v = figures::task_cell(r, vt, mt, ts, i, 0);
+    let n = figures::task_cell(r, vt, mt, ts, i, 1);
+    let a = task_answer_at(ta, i);
+    let x = size_waits(r, vt, mt, ts, wa, i);
+    x + writers::task_size(v, n, a)
+}
+
+fn size_tasks(
+    r: PlanRecord,
+    vt: &[u64],
+    mt: &[u64],
+    ts: &[u64],
+    wa: &[u64],
+    ta: &[u64],
+    order: &[u64],
+    n: usize,
+) -> usize
+    requires { ⌜ Fit r (now vt) (now mt) (now ts) × WaitAnswersIn r (now vt) (now mt) (now ts) (now wa) × TaskAnswersIn r (now vt) (now mt) (now ts) (now ta) × Ordered (systemIn r (now vt) (now mt) (now ts)) (now ts) (now order) (r .tasks) n × (64 ≤ length (now order)) ⌝ }
+    ensures { λ x. ⌜ Sized (flat (taskLines (systemIn r (now (vt .entry)) (now (mt .entry)) (now (ts .entry)))) (rising (systemIn r (now (vt .entry)) (now (mt .entry)) (now (ts .entry))))) 62464 x ⌝ }
+{
+    let mut s = 0;
+    let mut i = 0;
+    while i < n {
+        let x = size_task(r, vt, mt, ts, wa, ta, order[i] as usize);
+        s = s + x;
+        i += 1;
+    }
+    s
+}
+
+// The size of the listing.
+pub fn listing_size(
+    r: PlanRecord,
+    vt: &[u64],
+    mt: &[u64],
+    ts: &[u64],
+    va: &[u64],
+    wa: &[u64],
+    ta: &[u64],
+    order: &[u64],
+    n: usize,
+) -> usize
+    requires { ⌜ Fit r (now vt) (now mt) (now ts) × AnswersIn r (now vt) (now mt) (now ts) (now va) (now wa) (now ta) × Ordered (systemIn r (now vt) (now mt) (now ts)) (now ts) (now order) (r .tasks) n × (64 ≤ length (now order)) ⌝ }
+    ensures { λ x. ⌜ Sized (listing (systemIn r (now (vt .entry)) (now (mt .entry)) (now (ts .entry)))) 63683 x ⌝ }
+{
+    let fits = all_fit(r, vt, mt, ts, va, ta);
+    let x = writers::head_size();
+    let y = size_vcpus(r, vt, mt, ts, va);
+    let z = size_tasks(r, vt, mt, ts, wa, ta, order, n);
+    x + (y + (z + writers::all_size(fits)))
+}
