@@ -9,13 +9,10 @@ use std::sync::Mutex;
 
 use oracle::events::board_text;
 use oracle::generate::{board_case, plan_case};
-use oracle::limits::INPUT_BYTES;
-use oracle::reading::read;
 use oracle::tally::Tally;
 use oracle::verdict::verdict_text;
 
 const USAGE: &str = "usage:
-  compare reading SEED COUNT SAVE PROGRAM [ARG ..]    COUNT generated plans: their rows, or the refusal
   compare verdict SEED COUNT SAVE PROGRAM [ARG ..]    COUNT generated plans: the listing
   compare board SEED COUNT SAVE PROGRAM [ARG ..]      COUNT generated plans with events
   compare plans FOLDER SAVE PROGRAM [ARG ..]          the plans that FOLDER/want.tsv names, and what it wants of each
@@ -58,8 +55,6 @@ impl Want {
 #[derive(Clone)]
 struct Case {
     name: String,
-    /// Only the reading is compared.
-    reading: bool,
     plan: Option<Vec<u8>>,
     /// None for a run of `verdict`, whose input is the plan.
     events: Option<Vec<u8>>,
@@ -85,14 +80,11 @@ fn main() -> ExitCode {
 fn run(args: &[String]) -> Result<u64, String> {
     let words: Vec<&str> = args.iter().map(|a| a.as_str()).collect();
     match words.as_slice() {
-        [what @ ("verdict" | "reading"), seed, count, save, program @ ..]
-            if !program.is_empty() =>
-        {
+        ["verdict", seed, count, save, program @ ..] if !program.is_empty() => {
             let seed = number(seed)?;
             all(number(count)?, save, program, &|index| {
                 Some(Case {
-                    name: format!("{}-{}-{}", what, seed, index),
-                    reading: *what == "reading",
+                    name: format!("verdict-{}-{}", seed, index),
                     plan: Some(plan_case(seed, index)),
                     events: None,
                     want: None,
@@ -105,7 +97,6 @@ fn run(args: &[String]) -> Result<u64, String> {
                 let case = board_case(seed, index);
                 Some(Case {
                     name: format!("board-{}-{}", seed, index),
-                    reading: false,
                     plan: case.plan,
                     events: Some(case.events),
                     want: None,
@@ -185,7 +176,6 @@ fn stored_plans(folder: &Path) -> Result<Vec<Case>, String> {
         }
         cases.push(Case {
             name: name.to_string(),
-            reading: false,
             plan: Some(file_bytes(&folder.join(format!("{}.tsv", name)))?),
             events: None,
             want: Some(want),
@@ -209,7 +199,6 @@ fn stored_events(folder: &Path) -> Result<Vec<Case>, String> {
         let plan = path.join("plan.tsv");
         cases.push(Case {
             name: named(&path),
-            reading: false,
             plan: if plan.exists() {
                 Some(file_bytes(&plan)?)
             } else {
@@ -310,7 +299,6 @@ fn one(
 ) -> Result<bool, String> {
     let plan = case.plan.clone().unwrap_or_default();
     let (wanted, input) = match &case.events {
-        None if case.reading => (rows_text(&plan), &plan),
         None => (verdict_text(&plan), &plan),
         Some(events) => (board_text(&plan, events), events),
     };
@@ -365,21 +353,6 @@ fn one(
         ));
     }
     Ok(false)
-}
-
-/// How many rows of each kind an accepted plan has, or its refusal.
-fn rows_text(plan: &[u8]) -> Vec<u8> {
-    match read(plan) {
-        Ok(p) if plan.len() <= INPUT_BYTES => format!(
-            "accepted\t{}\t{}\t{}\t{}\n",
-            p.vcpus.len(),
-            p.mutexes.len(),
-            p.opens.len(),
-            p.sections.iter().map(|s| s.tasks.len()).sum::<usize>()
-        )
-        .into_bytes(),
-        _ => verdict_text(plan),
-    }
 }
 
 /// What a program prints for this standard input. A program that stops reading early is no

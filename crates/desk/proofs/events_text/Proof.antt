@@ -1,0 +1,37 @@
+-- `events_text` meets its contract.
+use borrow.Author.Needs.{needs}
+use Rattle.desk.specs.Told.{left-sure, left-events}
+use Rattle.desk.proofs.events_text.Statement.{statement}
+use Rattle.desk.proofs.events_text.Tie as tie
+
+sure : tie.Need-answers-or-requires
+sure c κs =
+    let a = c .before .before .before .before .before .before .before .before .before in
+    let e = a .read-plan .ensures in
+    let b = a .before .before .before .before .before .before .before .before in
+    (left-sure _ (record { ample = record { vcpus = search needs; mutexes = search needs; opens = search needs; tasks = search needs } }) (e .0) (e .1 .0) (e .1 .1 .0) (e .1 .1 .1 .0) (e .1 .1 .1 .1), b .pre)
+
+returns : tie.Need-returns
+returns c =
+    let x = c .before .before in
+    let a = x .before .before .before .before .before .before .before .before .before .before in
+    let e = a .read-plan .ensures in
+    left-events _ (record { ample = record { vcpus = search needs; mutexes = search needs; opens = search needs; tasks = search needs } }) (e .0) (e .1 .0) (e .1 .1 .0) (e .1 .1 .1 .0) (e .1 .1 .1 .1) _ _
+    (x .answers-or .ensures)
+
+pub events-text-spec : {M : Type 1} → statement M
+events-text-spec =
+    tie.close
+    (tie.spec
+    (λ c. search needs)
+    (λ c. search needs)
+    (λ c. search needs)
+    (λ c. search needs)
+    (λ c κs. search needs)
+    (λ c. search needs)
+    (λ c. search needs)
+    (λ c. search needs)
+    (λ c. search needs)
+    sure
+    (λ c. search needs)
+    returns)

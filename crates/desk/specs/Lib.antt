@@ -1,0 +1,6 @@
+pub mod Ample
+pub mod Read
+pub mod Tested
+pub mod Boarded
+pub mod Told
+pub mod Whole

@@ -1,0 +1,265 @@
+// The faces that strangers call: from any bytes to the bytes that a program prints.
+use lockboard::Board;
+use model::OverrunChoice;
+use model::Policy;
+use model::Refusal;
+use reader::PlanAnswer;
+use tables::PlanRecord;
+use writers::TextAnswer;
+ghost use mathlib.Core.Path.{_≡_};
+ghost use mathlib.Core.Bool.{true};
+ghost use Prim.Native.Nat.{_*_, _≤_};
+ghost use lib.ListN.{length};
+ghost use Rattle.model.specs.Reading.{reading};
+ghost use Rattle.tables.specs.Given.{planIn, isGiven};
+ghost use Rattle.figures.specs.System.{system};
+ghost use Rattle.listing.specs.Listing.{refusedLine, readText, verdictText};
+ghost use Rattle.lockboard.specs.Facts.{factsOf};
+ghost use Rattle.lockboard.specs.View.{factsIn};
+ghost use Rattle.lockboard.specs.Events.{eventsText, boardText};
+ghost use Rattle.writers.specs.Wrote.{Wrote};
+ghost use Rattle.writers.specs.Into.{textAnswer, textAfter};
+ghost use Rattle.desk.specs.Read.{isAccepted, recordIn, refusalIn, lineIn};
+ghost use Rattle.desk.specs.Tested.{RoomFor};
+ghost use Rattle.desk.specs.Told.{Sure, listingOr, answersOr};
+ghost use Rattle.desk.specs.Whole.{bytesIn, verdictBytes, boardBytes, Counted};
+ghost use Rattle.desk.specs.Boarded.{answersOn, answersFor};
+
+// Is the plan accepted?
+fn is_accepted(a: PlanAnswer) -> bool
+    ensures { λ x. ⌜ x ≡ isAccepted a ⌝ }
+{
+    match a {
+        PlanAnswer::Accepted(_) => true,
+        PlanAnswer::Refused { number: _, line: _ } => false,
+    }
+}
+
+// The record of an accepted plan; of a refused one a record without rows.
+fn record_in(a: PlanAnswer) -> PlanRecord
+    ensures { λ x. ⌜ x ≡ recordIn a ⌝ }
+{
+    match a {
+        PlanAnswer::Accepted(r) => r,
+        PlanAnswer::Refused { number: _, line: _ } => filler::record_of(filler::blank()),
+    }
+}
+
+// Why a plan is refused.
+fn refusal_in(a: PlanAnswer) -> Refusal
+    ensures { λ x. ⌜ x ≡ refusalIn a ⌝ }
+{
+    match a {
+        PlanAnswer::Accepted(_) => Refusal::Shape,
+        PlanAnswer::Refused { number, line: _ } => number,
+    }
+}
+
+// The line of a refused plan.
+fn line_in(a: PlanAnswer) -> u64
+    ensures { λ x. ⌜ x ≡ lineIn a ⌝ }
+{
+    match a {
+        PlanAnswer::Accepted(_) => 0,
+        PlanAnswer::Refused { number: _, line } => line as u64,
+    }
+}
+
+// Writes the one line of a refusal; with too little room 8, and the buffer as it was lent.
+fn refusal_text(x: Refusal, l: u64, out: &mut [u8]) -> TextAnswer
+    ensures { λ a. ⌜ a ≡ textAnswer (refusedLine x l) (now (out .entry)) ⌝ }
+    ensures { λ a. ⌜ now (out .exit) ≡ textAfter (refusedLine x l) (now (out .entry)) ⌝ }
+{
+    if out.len() < writers::refused_size(x, l) {
+        return TextAnswer::Refused(Refusal::Room);
+    }
+    let n = writers::refused_line(out, x, l);
+    TextAnswer::Written(n)
+}
+
+// Do the answers to the events of src fit into so much room?
+fn answers_fit(
+    b: Board,
+    policy: Policy,
+    choice: OverrunChoice,
+    view: &[u64],
+    src: &[u8],
+    room: usize,
+) -> bool
+    requires { ⌜ (length (now src) ≤ 65536) × (length (answersOn (factsIn policy choice (now view)) b (now src)) ≤ 10 * length (now src)) ⌝ }
+    ensures { λ x. ⌜ RoomFor (answersOn (factsIn policy choice (now (view .entry))) b (now (src .entry))) room x ⌝ }
+{
+    if 10 * src.len() <= room {
+        return true;
+    }
+    events::answers_size(b, policy, choice, view, src) <= room
+}
+
+// Writes the answers to the events of src from board b on; with too little room 8, and the buffer as it was lent.
+fn answers_from(
+    b: Board,
+    policy: Policy,
+    choice: OverrunChoice,
+    view: &[u64],
+    src: &[u8],
+    out: &mut [u8],
+) -> TextAnswer
+    requires { ⌜ (length (now src) ≤ 65536) × (length (answersOn (factsIn policy choice (now view)) b (now src)) ≤ 10 * length (now src)) ⌝ }
+    ensures { λ a. ⌜ a ≡ textAnswer (answersOn (factsIn policy choice (now (view .entry))) b (now (src .entry))) (now (out .entry)) ⌝ }
+    ensures { λ a. ⌜ now (out .exit) ≡ textAfter (answersOn (factsIn policy choice (now (view .entry))) b (now (src .entry))) (now (out .entry)) ⌝ }
+{
+    if answers_fit(b, policy, choice, view, src, out.len()) {
+        let n = events::put_answers(b, policy, choice, view, src, out);
+        return TextAnswer::Written(n);
+    }
+    TextAnswer::Refused(Refusal::Room)
+}
+
+// Writes the answers to the events of src for the plan in tables that passed the test for 9.
+fn answers_into(
+    r: PlanRecord,
+    vt: &[u64],
+    mt: &[u64],
+    ot: &[u64],
+    ts: &[u64],
+    src: &[u8],
+    out: &mut [u8],
+) -> TextAnswer
+    requires { ⌜ (isGiven r (record { vcpus = now vt; mutexes = now mt; opens = now ot; tasks = now ts }) ≡ true) × (length (now src) ≤ 65536) ⌝ }
+    ensures { λ a. ⌜ a ≡ textAnswer (answersFor (factsOf (system (planIn r (record { vcpus = now (vt .entry); mutexes = now (mt .entry); opens = now (ot .entry); tasks = now (ts .entry) })))) (now (src .entry))) (now (out .entry)) ⌝ }
+    ensures { λ a. ⌜ now (out .exit) ≡ textAfter (answersFor (factsOf (system (planIn r (record { vcpus = now (vt .entry); mutexes = now (mt .entry); opens = now (ot .entry); tasks = now (ts .entry) })))) (now (src .entry))) (now (out .entry)) ⌝ }
+{
+    let mut view = [0u64; 4320];
+    views::fill_view(r, vt, mt, ts, &mut view);
+    let b = Board::fresh(&view);
+    let policy = r.policy;
+    let choice = r.overrun;
+    answers_from(b, policy, choice, &view, src, out)
+}
+
+// Writes the answers to events for an accepted plan, or the line of a refused one.
+fn answers_or(
+    a: PlanAnswer,
+    vt: &[u64],
+    mt: &[u64],
+    ot: &[u64],
+    ts: &[u64],
+    src: &[u8],
+    out: &mut [u8],
+) -> TextAnswer
+    requires { ⌜ Sure a (record { vcpus = now vt; mutexes = now mt; opens = now ot; tasks = now ts }) × (length (now src) ≤ 65536) ⌝ }
+    ensures { λ x. ⌜ x ≡ textAnswer (answersOr a (record { vcpus = now (vt .entry); mutexes = now (mt .entry); opens = now (ot .entry); tasks = now (ts .entry) }) (now (src .entry))) (now (out .entry)) ⌝ }
+    ensures { λ x. ⌜ now (out .exit) ≡ textAfter (answersOr a (record { vcpus = now (vt .entry); mutexes = now (mt .entry); opens = now (ot .entry); tasks = now (ts .entry) }) (now (src .entry))) (now (out .entry)) ⌝ }
+{
+    if is_accepted(a) {
+        let r = record_in(a);
+        return answers_into(r, vt, mt, ot, ts, src, out);
+    }
+    let x = refusal_in(a);
+    let l = line_in(a);
+    refusal_text(x, l, out)
+}
+
+// Reads a plan, and writes the answers to events, or the plan's refusal.
+fn events_text(plan: &[u8], src: &[u8], out: &mut [u8]) -> TextAnswer
+    requires { ⌜ length (now src) ≤ 65536 ⌝ }
+    ensures { λ x. ⌜ x ≡ textAnswer (eventsText (reading (now (plan .entry))) (now (src .entry))) (now (out .entry)) ⌝ }
+    ensures { λ x. ⌜ now (out .exit) ≡ textAfter (eventsText (reading (now (plan .entry))) (now (src .entry))) (now (out .entry)) ⌝ }
+{
+    let mut vt = [0u64; 80];
+    let mut mt = [0u64; 64];
+    let mut ot = [0u64; 256];
+    let mut ts = [0u64; 1856];
+    let a = reader::read_plan(plan, &mut vt, &mut mt, &mut ot, &mut ts);
+    answers_or(a, &vt, &mt, &ot, &ts, src, out)
+}
+
+// What `board` prints for any two inputs, into a lent buffer; with too little room 8, and the buffer as it was lent.
+pub fn board_text(plan: &[u8], src: &[u8], out: &mut [u8]) -> TextAnswer
+    ensures { λ x. ⌜ x ≡ textAnswer (boardText (now (plan .entry)) (now (src .entry))) (now (out .entry)) ⌝ }
+    ensures { λ x. ⌜ now (out .exit) ≡ textAfter (boardText (now (plan .entry)) (now (src .entry))) (now (out .entry)) ⌝ }
+{
+    if 65536 < plan.len() {
+        return refusal_text(Refusal::Room, 0, out);
+    }
+    if 65536 < src.len() {
+        return refusal_text(Refusal::Room, 0, out);
+    }
+    events_text(plan, src, out)
+}
+
+// Writes the listing of an accepted plan, or the line of a refused one.
+fn listing_or(
+    a: PlanAnswer,
+    vt: &[u64],
+    mt: &[u64],
+    ot: &[u64],
+    ts: &[u64],
+    out: &mut [u8],
+) -> TextAnswer
+    requires { ⌜ Sure a (record { vcpus = now vt; mutexes = now mt; opens = now ot; tasks = now ts }) ⌝ }
+    ensures { λ x. ⌜ x ≡ textAnswer (listingOr a (record { vcpus = now (vt .entry); mutexes = now (mt .entry); opens = now (ot .entry); tasks = now (ts .entry) })) (now (out .entry)) ⌝ }
+    ensures { λ x. ⌜ now (out .exit) ≡ textAfter (listingOr a (record { vcpus = now (vt .entry); mutexes = now (mt .entry); opens = now (ot .entry); tasks = now (ts .entry) })) (now (out .entry)) ⌝ }
+{
+    if is_accepted(a) {
+        let r = record_in(a);
+        return lister::listing_into(r, vt, mt, ts, out);
+    }
+    let x = refusal_in(a);
+    let l = line_in(a);
+    refusal_text(x, l, out)
+}
+
+// Reads a plan, and writes its listing or its refusal.
+fn plan_text(src: &[u8], out: &mut [u8]) -> TextAnswer
+    ensures { λ x. ⌜ x ≡ textAnswer (readText (reading (now (src .entry)))) (now (out .entry)) ⌝ }
+    ensures { λ x. ⌜ now (out .exit) ≡ textAfter (readText (reading (now (src .entry)))) (now (out .entry)) ⌝ }
+{
+    let mut vt = [0u64; 80];
+    let mut mt = [0u64; 64];
+    let mut ot = [0u64; 256];
+    let mut ts = [0u64; 1856];
+    let a = reader::read_plan(src, &mut vt, &mut mt, &mut ot, &mut ts);
+    listing_or(a, &vt, &mt, &ot, &ts, out)
+}
+
+// What `verdict` prints for any input, into a lent buffer; with too little room 8, and the buffer as it was lent.
+pub fn verdict_text(src: &[u8], out: &mut [u8]) -> TextAnswer
+    ensures { λ x. ⌜ x ≡ textAnswer (verdictText (now (src .entry))) (now (out .entry)) ⌝ }
+    ensures { λ x. ⌜ now (out .exit) ≡ textAfter (verdictText (now (src .entry))) (now (out .entry)) ⌝ }
+{
+    if 65536 < src.len() {
+        return refusal_text(Refusal::Room, 0, out);
+    }
+    plan_text(src, out)
+}
+
+// How many bytes a call has written.
+fn bytes_in(a: TextAnswer) -> usize
+    ensures { λ n. ⌜ n ≡ bytesIn a ⌝ }
+{
+    match a {
+        TextAnswer::Written(n) => n,
+        TextAnswer::Refused(_) => 0,
+    }
+}
+
+// What `board` prints, into a buffer of its program's size; returns the bytes written.
+pub fn board_in(plan: &[u8], src: &[u8], out: &mut [u8]) -> usize
+    requires { ⌜ boardBytes ≤ length (now out) ⌝ }
+    ensures { λ n. ⌜ Wrote (boardText (now (plan .entry)) (now (src .entry))) (now (out .entry)) (now (out .exit)) n ⌝ }
+    ensures { λ n. ⌜ Counted n (now (out .exit)) ⌝ }
+{
+    let a = board_text(plan, src, out);
+    bytes_in(a)
+}
+
+// What `verdict` prints, into a buffer of its program's size; returns the bytes written.
+pub fn verdict_in(src: &[u8], out: &mut [u8]) -> usize
+    requires { ⌜ verdictBytes ≤ length (now out) ⌝ }
+    ensures { λ n. ⌜ Wrote (verdictText (now (src .entry))) (now (out .entry)) (now (out .exit)) n ⌝ }
+    ensures { λ n. ⌜ Counted n (now (out .exit)) ⌝ }
+{
+    let a = verdict_text(src, out);
+    bytes_in(a)
+}
