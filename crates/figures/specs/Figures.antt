@@ -129,10 +129,11 @@ ceiling p m = greatest (λ k. when (locksIt m k) (k .n)) (p .tasks)
 abbrev pub ceilingCounts : ℕ → ℕ → Bool
 ceilingCounts n c = ltb n c
 
--- Local blocking, eqs. 7 to 9: (longest local section of a lower task of the VCPU on a mutex whose ceiling is greater than n,
+-- the longest local section of task h on a mutex whose ceiling is greater than n
 unfoldable pub longestLocal : System → ℕ → Task → ℕ
 longestLocal p n h = greatest (λ l. when (localTo (p .mutexes) (h .v) (l .m) && ceilingCounts n (ceiling p (l .m))) (l .ticks)) (h .locks)
 
+-- Local blocking, eqs. 7 to 9: (longest local section of a lower task of the VCPU on a mutex whose ceiling is greater than n,
 -- plus the sum of lower tasks' longest global sections) × (own global sections + 1)
 unfoldable pub localBlocking : System → Task → ℕ
 localBlocking p k =

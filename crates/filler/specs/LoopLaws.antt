@@ -1,19 +1,19 @@
 -- Laws of the loops over lines and over cells: one turn, and the end.
-use Prim.Native.Nat.{ℕ, _+_, _-_, _≤_}
+use Prim.Native.Nat.{ℕ, _+_, _<_, _≤_}
 use mathlib.Core.Path.{_≡_, ap, sym, _∙_}
-use mathlib.Core.List.{List, [], _∷_}
-use mathlib.Core.Bool.{true}
+use mathlib.Core.List.{List}
+use mathlib.Core.Bool.{true, false}
 use native.Mathlib.Numerals.{add-one}
 use native.Mathlib.Nat.{le-antisymm}
-use native.Mathlib.Omega.{arith}
-use lib.ListN.{length, set, take, drop, length-drop}
+use lib.ListN.{length, set, drop}
 use Rattle.laws.specs.Bytes.{pieces}
 use Rattle.laws.specs.BytesLaws.{pieces-some}
-use Rattle.laws.specs.Fields.{before}
-use Rattle.laws.specs.Steps.{before-le, pieces-next, pieces-end}
 use Rattle.model.specs.Limits.{lf}
 use Rattle.lines.specs.declared.Said.{Said}
 use Rattle.lines.specs.Said.{saidOf}
+use Rattle.scan.specs.declared.Line.{Line}
+use Rattle.scan.specs.Scan.{lineIn, lineAt}
+use Rattle.scan.specs.ScanLaws.{line-said, next-later, ended-pieces, last-piece}
 use Rattle.filler.specs.Fill.{Tally, tallyAfter, blank, putIf, wiped, filledBy}
 
 -- zeros, one more and all
@@ -24,31 +24,22 @@ wiped-more d₀ d e k i h p = let n = add-one i in rw n (p ∙ ap (λ d. set d (
 pub wiped-all : (d₀ d : List ℕ) (k i n : ℕ) → d ≡ wiped d₀ k i → i ≤ n → n ≤ i → d ≡ wiped d₀ k n
 wiped-all d₀ d k i n h l m = h ∙ ap (wiped d₀ k) (le-antisymm l m)
 
--- ONE LINE: r is what is left of s from `at` on, and k its bytes before the next LF
-module _ (s : List ℕ) (at k : ℕ) (r : List ℕ) (er : r ≡ drop at s) (ek : k ≡ length (before lf r)) where
-  cut-at : k ≡ length (before lf (drop at s))
-  cut-at = ek ∙ ap (λ x. length (before lf x)) er
-
-  rest-long : length r ≡ length s - at
-  rest-long = ap length er ∙ length-drop at s
-
-  pub line-fits : (k ≡ length r → ⊥) → at + k + 1 ≤ length s
-  line-fits h = omega (arith, before-le lf r, ek, rest-long, h)
-
-  pub line-next : (k ≡ length r → ⊥) → pieces lf (drop at s) ≡ take k r ∷ pieces lf (drop (at + k + 1) s)
-  line-next h = rw er (pieces-next lf s at k cut-at (omega (arith, line-fits h)))
-
-  pub line-last : at ≤ length s → k ≡ length r → pieces lf (drop at s) ≡ r ∷ []
-  line-last l h = rw er (pieces-end lf s at k cut-at (omega (arith, rest-long)))
+-- ONE LINE: l is the one that begins at `at`
+module _ (s : List ℕ) (at : ℕ) (l : Line) (el : l ≡ lineAt s at) where
+  pub next-fits : l .ended ≡ true → (at < l .next) × (l .next ≤ length s)
+  next-fits h = rw el (next-later s at (rw el at h))
 
   module _ (put : Tally → Said → List ℕ → List ℕ) (t : Tally) (d d₀ : List ℕ)
       (inv : filledBy put blank d₀ (pieces lf s) ≡ filledBy put t d (pieces lf (drop at s))) where
     pub filled-next :
-        (k ≡ length r → ⊥) → (x : Said) (u : Tally) (e : List ℕ) → x ≡ saidOf (take k r) → u ≡ tallyAfter t x → e ≡ put t x d →
-        filledBy put blank d₀ (pieces lf s) ≡ filledBy put u e (pieces lf (drop (at + k + 1) s))
+        l .ended ≡ true → (u : Tally) (e : List ℕ) → u ≡ tallyAfter t (l .said) → e ≡ put t (l .said) d →
+        filledBy put blank d₀ (pieces lf s) ≡ filledBy put u e (pieces lf (drop (l .next) s))
     unfolding filledBy
-    filled-next h x u e ex eu ee = inv ∙ rw (line-next h) (simp (pieces-some lf (drop (at + k + 1) s)) (rw (eu, ee, ex)))
+    filled-next h u e eu ee =
+        let x : l .said ≡ saidOf (lineIn s at) = ap (λ l. l .said) el ∙ line-said s at in
+        inv
+        ∙ rw (ended-pieces s at (rw el at h)) (simp (pieces-some lf (drop (lineAt s at .next) s)) (rw (eu, ee, x, el)))
 
-    pub filled-last : at ≤ length s → k ≡ length r → d ≡ filledBy put blank d₀ (pieces lf s)
+    pub filled-last : l .ended ≡ false → d ≡ filledBy put blank d₀ (pieces lf s)
     unfolding filledBy
-    filled-last l h = sym (inv ∙ rw (line-last l h))
+    filled-last h = sym (inv ∙ rw (last-piece s at (rw el at h)))

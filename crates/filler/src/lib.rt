@@ -13,8 +13,6 @@ ghost use Rattle.laws.specs.Rows.{Is};
 ghost use Rattle.model.specs.Limits.{lf};
 ghost use Rattle.filler.specs.Fill as fills;
 
-const LF: u8 = 10;
-
 // No more rows of a table are counted.
 const MOST: usize = 128;
 
@@ -306,19 +304,17 @@ pub fn fill(src: &[u8], vt: &mut [u64], mt: &mut [u64], ot: &mut [u64], kt: &mut
     let mut t = blank();
     let mut at = 0;
     loop {
-        let rest = &src[at..];
-        let k = lines::cut(rest, LF);
-        if k == rest.len() {
+        let l = scan::line_at(src, at);
+        if !l.ended {
             return;
         }
-        let next = at + k + 1;
-        let s = lines::said_of(&rest[..k]);
+        let s = l.said;
         put_vcpu(t, s, vt);
         put_mutex(t, s, mt);
         put_open(t, s, ot);
         put_sheet(t, s, kt);
         let u = tally_after(t, s);
         t = u;
-        at = next;
+        at = l.next;
     }
 }

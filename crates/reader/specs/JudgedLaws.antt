@@ -1,17 +1,16 @@
 -- The code of the reader answers what it should: line by line, with room, and in the tables.
-use Prim.Native.Nat.{ℕ, zero, suc, _+_, _*_, _/_, _≤_, _<_}
+use Prim.Native.Nat.{ℕ, suc, _+_, _*_, _/_, _≤_, _<_}
 use mathlib.Core.Path.{_≡_, refl, ap, sym, _∙_}
 use mathlib.Core.List.{List, [], _∷_}
 use mathlib.Core.Option.{none}
 use mathlib.Core.Bool.{Bool, true, false, cond, _&&_, false≢true, true≢false}
 use native.Mathlib.Omega.{arith}
 use lib.Dec.{eqb, leb}
-use lib.ListN.{length, take, drop}
-use borrow.Author.Tests.{leb-true, leb-false, le-leb, eqb-true, eqb-false, ne-eqb}
+use lib.ListN.{length, drop}
+use borrow.Author.Tests.{leb-true, leb-false, le-leb, ne-eqb}
 use Rattle.laws.specs.Bytes.{pieces, same, isNil}
 use Rattle.laws.specs.BytesLaws.{pieces-some}
 use Rattle.laws.specs.Choice.{if_then_else_}
-use Rattle.laws.specs.Fields.{before}
 use Rattle.model.specs.Limits.{lf}
 use Rattle.model.specs.declared.Kind.{Kind}
 use Rattle.model.specs.declared.Found.{Found}
@@ -32,18 +31,19 @@ use Rattle.lines.specs.declared.Said.{Said}
 use Rattle.lines.specs.Said.{saidOf, saidItem}
 use Rattle.lines.specs.Said as said
 use Rattle.lines.specs.SaidLaws.{said-item}
+use Rattle.scan.specs.Scan.{lineIn, lineAt}
+use Rattle.scan.specs.ScanLaws.{line-said, ended-pieces, last-piece}
 use Rattle.coded.specs.declared.Seen.{Seen}
 use Rattle.coded.specs.Coded.{coded, start}
 use Rattle.coded.specs.Coded as code
 use Rattle.coded.specs.Agrees.{same-reading}
 use Rattle.filler.specs.declared.Tally.{Tally}
 use Rattle.filler.specs.Fill.{recordIn, tallied, tallyAfter, blank, filledBy, vcpuPut, mutexPut, openPut, taskPut}
-use Rattle.filler.specs.LoopLaws.{line-next, line-last}
 use Rattle.filler.specs.PlanLaws.{tablesBy, text-record, text-tables}
 use Rattle.reader.specs.Into.{PlanAnswer, Accepted, Refused, answerInto, tablesInto, planAnswer, tablesAfter}
 use Rattle.reader.specs.Judged.{answerBy, judgedFrom, refusedBy, finishBy, roomyBy, roomOr, withRoom, isAccepted, filledIf}
 
--- ONE LINE: r is what is left of s from `at` on, and k its bytes before the next LF
+-- ONE LINE, the one that begins at `at`
 
 nil-length : (r : List ℕ) → isNil r ≡ eqb (length r) 0
 nil-length [] = refl
@@ -53,60 +53,48 @@ item-nil : itemOf [] ≡ none
 unfolding itemOf pieces kindIn shape hasShape same
 item-nil = refl
 
-positive : (k : ℕ) → (k ≡ 0 → ⊥) → 1 ≤ k
-positive zero h = absurd (h refl)
-positive (suc k) h = omega arith
-
 finish-by : (b : Bool) (c : Tally) (n : ℕ) → answerBy (cond b Faultless (FirstBad Shape n)) (recordIn c) ≡ finishBy b c n
 unfolding finishBy
 finish-by true c n = refl
 finish-by false c n = refl
 
-module _ (s : List ℕ) (at k : ℕ) (r : List ℕ) (er : r ≡ drop at s) (ek : k ≡ length (before lf r)) (t : Seen) (c : Tally) (n : ℕ) where
-  pub judged-last : at ≤ length s → k ≡ length r → judgedFrom t c n (pieces lf (drop at s)) ≡ finishBy (coded .ready t && eqb k 0) c n
-  unfolding judgedFrom judge tallied
-  judged-last l h =
-      rw (line-last s at k r er ek l h)
-      (rw (nil-length r, h) (finish-by (coded .ready t && eqb (length r) 0) c n))
+-- a line with no fault is not empty
+pub line-some : (t : Seen) (l : List ℕ) → isClear (faultOf coded t (saidItem (saidOf l))) ≡ true → 1 ≤ length l
+line-some t [] q = absurd (false≢true (sym (ap (λ i. isClear (faultOf coded t i)) (sym (said-item []) ∙ item-nil)) ∙ q))
+line-some t (x ∷ l) q = omega arith
 
-  module _ (h : k ≡ length r → ⊥) (x : Said) (ex : x ≡ saidOf (take k r)) (f : Fault) (ef : f ≡ faultOf coded t (saidItem x)) where
-    item-said : itemOf (take k r) ≡ saidItem x
-    item-said = said-item (take k r) ∙ ap saidItem (sym ex)
+module _ (s : List ℕ) (at : ℕ) (t : Seen) (c : Tally) (n : ℕ) where
+  pub judged-last : lineAt s at .ended ≡ false → judgedFrom t c n (pieces lf (drop at s)) ≡ finishBy (coded .ready t && lineAt s at .empty) c n
+  unfolding judgedFrom judge tallied lineAt
+  judged-last h = rw (last-piece s at h) (rw (nil-length (drop at s)) (finish-by (coded .ready t && eqb (length (drop at s)) 0) c n))
 
-    -- a line with no fault is not empty
-    pub line-some : isClear f ≡ true → 1 ≤ k
-    line-some q = go (eqb k 0) refl
-      where
-        go : (b : Bool) → eqb k 0 ≡ b → 1 ≤ k
-        go true e =
-            absurd
-            (false≢true
-            (sym (ap isClear (ef ∙ ap (faultOf coded t) (sym item-said ∙ ap (λ j. itemOf (take j r)) (eqb-true k 0 e) ∙ item-nil))) ∙ q))
-        go false e = let g = eqb-false k 0 e in positive k g
+  module _ (h : lineAt s at .ended ≡ true) where
+    abbrev x : Said
+    x = lineAt s at .said
 
-    judged-step :
-        judgedFrom t c n (pieces lf (drop at s))
-        ≡ answerBy (onward coded f n (judge coded (nextOf coded t (saidItem x)) (n + 1) (pieces lf (drop (at + k + 1) s)))) (recordIn (tallied (tallyAfter c x) (pieces lf (drop (at + k + 1) s))))
+    abbrev rest : List (List ℕ)
+    rest = pieces lf (drop (lineAt s at .next) s)
+
+    -- what follows, where the line has the fault f
+    abbrev follows : Fault → PlanAnswer
+    follows f = answerBy (onward coded f n (judge coded (nextOf coded t (saidItem x)) (n + 1) rest)) (recordIn (tallied (tallyAfter c x) rest))
+
+    judged-step : judgedFrom t c n (pieces lf (drop at s)) ≡ follows (faultOf coded t (saidItem x))
     unfolding judgedFrom judge tallied
-    judged-step = rw (line-next s at k r er ek h) (simp (pieces-some lf (drop (at + k + 1) s)) (rw (ef, ex, item-said, ex)))
+    judged-step = rw (ended-pieces s at h) (simp (pieces-some lf (drop (lineAt s at .next) s)) (rw (said-item (lineIn s at), line-said s at)))
 
-    pub judged-bad : isClear f ≡ false → judgedFrom t c n (pieces lf (drop at s)) ≡ refusedBy f n
-    judged-bad q = judged-step ∙ go f q
+    pub judged-bad : isClear (faultOf coded t (saidItem x)) ≡ false → judgedFrom t c n (pieces lf (drop at s)) ≡ refusedBy (faultOf coded t (saidItem x)) n
+    judged-bad q = judged-step ∙ go (faultOf coded t (saidItem x)) q
       where
-        go : (f : Fault) → isClear f ≡ false → answerBy (onward coded f n (judge coded (nextOf coded t (saidItem x)) (n + 1) (pieces lf (drop (at + k + 1) s)))) (recordIn (tallied (tallyAfter c x) (pieces lf (drop (at + k + 1) s)))) ≡ refusedBy f n
+        go : (f : Fault) → isClear f ≡ false → follows f ≡ refusedBy f n
         go Clear q = absurd (true≢false q)
         go (Bad y) q = refl
 
-    pub judged-next :
-        isClear f ≡ true → (u : Seen) (v : Tally) → u ≡ nextOf coded t (saidItem x) → v ≡ tallyAfter c x →
-        judgedFrom t c n (pieces lf (drop at s)) ≡ judgedFrom u v (n + 1) (pieces lf (drop (at + k + 1) s))
+    pub judged-next : isClear (faultOf coded t (saidItem x)) ≡ true → judgedFrom t c n (pieces lf (drop at s)) ≡ judgedFrom (nextOf coded t (saidItem x)) (tallyAfter c x) (n + 1) rest
     unfolding judgedFrom
-    judged-next q u v eu ev = judged-step ∙ go f q ∙ rw (eu, ev)
+    judged-next q = judged-step ∙ go (faultOf coded t (saidItem x)) q
       where
-        go :
-            (f : Fault) → isClear f ≡ true →
-            answerBy (onward coded f n (judge coded (nextOf coded t (saidItem x)) (n + 1) (pieces lf (drop (at + k + 1) s)))) (recordIn (tallied (tallyAfter c x) (pieces lf (drop (at + k + 1) s))))
-            ≡ answerBy (judge coded (nextOf coded t (saidItem x)) (n + 1) (pieces lf (drop (at + k + 1) s))) (recordIn (tallied (tallyAfter c x) (pieces lf (drop (at + k + 1) s))))
+        go : (f : Fault) → isClear f ≡ true → follows f ≡ answerBy (judge coded (nextOf coded t (saidItem x)) (n + 1) rest) (recordIn (tallied (tallyAfter c x) rest))
         go Clear q = refl
         go (Bad y) q = absurd (false≢true q)
 

@@ -5,6 +5,7 @@ use lines::Said;
 use model::Fault;
 use model::Found;
 use model::Refusal;
+use scan::Line;
 use tables::PlanRecord;
 ghost use mathlib.Core.Path.{_≡_};
 ghost use mathlib.Core.Bool.{true, false};
@@ -18,8 +19,7 @@ ghost use Rattle.coded.specs.Coded as coded;
 ghost use Rattle.filler.specs.Fill as fills;
 ghost use Rattle.reader.specs.Into.{planAnswer, tablesAfter};
 ghost use Rattle.reader.specs.Judged as judged;
-
-const LF: u8 = 10;
+ghost use Rattle.reader.specs.Turns as turns;
 
 // The answer to bytes offered as a plan: accepted with the plan record, or refused with number and line.
 pub enum PlanAnswer {
@@ -86,33 +86,86 @@ fn finish(ok: bool, t: Tally, n: usize) -> PlanAnswer
     }
 }
 
+// What is seen and tallied before a line; and once it is done, the answer.
+struct Turn {
+    seen: Seen,
+    tally: Tally,
+    done: bool,
+    answer: PlanAnswer,
+}
+
+// Before the first line.
+fn first() -> Turn
+    ensures { λ r. ⌜ r ≡ turns.first ⌝ }
+{
+    Turn {
+        seen: judge::start(),
+        tally: filler::blank(),
+        done: false,
+        answer: PlanAnswer::Refused {
+            number: Refusal::Shape,
+            line: 0,
+        },
+    }
+}
+
+// One turn: line n is judged, or what follows the last LF.
+fn turned(t: Turn, l: Line, n: usize) -> Turn
+    ensures { λ r. ⌜ r ≡ turns.turned t l n ⌝ }
+{
+    let seen = t.seen;
+    let tally = t.tally;
+    let said = l.said;
+    if !l.ended {
+        let end = finish(judge::ready(seen) & l.empty, tally, n);
+        return Turn {
+            seen: seen,
+            tally: tally,
+            done: true,
+            answer: end,
+        };
+    }
+    let f = fault_in(seen, said);
+    if !clear(f) {
+        let bad = refused(f, n);
+        return Turn {
+            seen: seen,
+            tally: tally,
+            done: true,
+            answer: bad,
+        };
+    }
+    let a = t.answer;
+    let u = seen_in(seen, said);
+    let v = filler::tally_after(tally, said);
+    Turn {
+        seen: u,
+        tally: v,
+        done: false,
+        answer: a,
+    }
+}
+
+// The answer, once it is done.
+fn answer_of(t: Turn) -> PlanAnswer
+    ensures { λ r. ⌜ r ≡ t .answer ⌝ }
+{
+    let a = t.answer;
+    a
+}
+
 // The answer to bytes offered as a plan, for tables with room.
 fn judge_lines(src: &[u8]) -> PlanAnswer
     ensures { λ r. ⌜ r ≡ judged.judgedFrom coded.start fills.blank 1 (pieces lf (now (src .entry))) ⌝ }
 {
-    let mut t = judge::start();
-    let mut c = filler::blank();
-    let mut n: usize = 1;
-    let mut at = 0;
-    loop {
-        let rest = &src[at..];
-        let k = lines::cut(rest, LF);
-        if k == rest.len() {
-            return finish(judge::ready(t) & (k == 0), c, n);
-        }
-        let next = at + k + 1;
-        let s = lines::said_of(&rest[..k]);
-        let f = fault_in(t, s);
-        if !clear(f) {
-            return refused(f, n);
-        }
-        let u = seen_in(t, s);
-        let v = filler::tally_after(c, s);
-        t = u;
-        c = v;
-        n += 1;
-        at = next;
+    let mut r = scan::new(src);
+    let mut t = first();
+    while !t.done {
+        let l = scan::next_line(r);
+        t = turned(t, l, scan::line_number(r));
+        r = scan::moved(r, l.next);
     }
+    answer_of(t)
 }
 
 // Have tables of these lengths room for a plan's rows?

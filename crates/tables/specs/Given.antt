@@ -51,7 +51,8 @@ planIn r t =
       sections = sectionsOf (rows (r .vcpus) (vcpuRow (t .vcpus))) (rows (r .tasks) (taskRow (t .tasks)));
     }
 
--- THE TEST FOR 9: the counts are within the slices, the places of locks that a task does not have are zero, and no row has a fault after those before it
+-- THE TEST FOR 9: the counts are within the slices, the places of locks that a task does not have are zero, no row has a fault after those before it, and a plan may end
+-- after the last (so it has a VCPU and a task)
 unfoldable pub roomy : PlanRecord → Tables → Bool
 roomy r t =
     leb (r .vcpus * vcpuWidth) (length (t .vcpus))

@@ -17,7 +17,7 @@ use Rattle.lockboard.specs.View.{globalOwner}
 abbrev pub bit : Bool → ℕ
 bit t = when t 1
 
--- the owner of mutex m: 0 where the plan lacks it, v where it is local to v
+-- the owner of mutex m: 0 where the plan lacks it, v where it is local to v, 17 where it is global
 unfoldable pub ownerOf : System → ℕ → ℕ
 ownerOf s m = if global (s .mutexes) m then globalOwner else highest maxV (λ v. localTo (s .mutexes) v m)
 

@@ -1,11 +1,10 @@
--- A text into a lent buffer: "no listing needs more bytes than its text", and a refusal leaves the buffer as it was lent.
+-- A text into a lent buffer: "no listing [needs] more bytes than its text", and a refusal leaves the buffer as it was lent.
 use Prim.Native.Nat.{ℕ}
 use mathlib.Core.List.{List, _++_}
 use mathlib.Core.Bool.{Bool, true, false}
 use lib.Dec.{leb}
 use lib.ListN.{length, drop}
-use Rattle.model.specs.declared.Refusal.{Refusal}
-use Rattle.model.specs.declared.Refusal.the-variants.{Room, Foreign}
+use Rattle.model.specs.declared.Refusal.the-variants.{Room}
 pub use Rattle.writers.specs.declared.TextAnswer.{TextAnswer}
 pub use Rattle.writers.specs.declared.TextAnswer.the-variants.{Written, Refused}
 

@@ -1,0 +1,98 @@
+// The line reader: a record that refers to the input. What a line is stands in specs/Scan.
+use lines::Said;
+ghost use mathlib.Core.Path.{_≡_};
+ghost use mathlib.Core.Bool.{true};
+ghost use Prim.Native.Nat.{_+_, _<_, _≤_, _^_};
+ghost use lib.ListN.{drop};
+ghost use Rattle.laws.specs.Choice.{if_then_else_};
+ghost use Rattle.scan.specs.Scan.{lineAt};
+
+const LF: u8 = 10;
+
+// A line: whether an LF ends it, and if none does, whether nothing is left; what it says; and where the next line begins.
+pub struct Line {
+    pub ended: bool,
+    pub empty: bool,
+    pub said: Said,
+    pub next: usize,
+}
+
+// The input, the place where the next line begins, and that line's number.
+pub struct LineReader<'a> {
+    src: &'a [u8],
+    at: usize,
+    line: usize,
+}
+
+// The bytes from `at` on, none where there are no more.
+fn rest(src: &[u8], at: usize) -> &[u8]
+    ensures { λ r. ⌜ now r ≡ drop at (now (src .entry)) ⌝ }
+{
+    if at < src.len() {
+        &src[at..]
+    } else {
+        &src[..0]
+    }
+}
+
+// Where the line after one of k bytes begins; the end where no LF ends that one.
+fn next_of(ended: bool, at: usize, k: usize, end: usize) -> usize
+    requires { ⌜ (ended ≡ true → at + k + 1 ≤ end) ⌝ }
+    ensures { λ r. ⌜ r ≡ (if ended then at + k + 1 else end) ⌝ }
+{
+    if ended { at + k + 1 } else { end }
+}
+
+// The line that begins at a place.
+pub fn line_at(src: &[u8], at: usize) -> Line
+    ensures { λ r. ⌜ r ≡ lineAt (now (src .entry)) at ⌝ }
+{
+    let left = rest(src, at);
+    let k = lines::cut(left, LF);
+    let ended = k < left.len();
+    let said = lines::said_of(&left[..k]);
+    let next = next_of(ended, at, k, src.len());
+    Line {
+        ended: ended,
+        empty: left.len() == 0,
+        said: said,
+        next: next,
+    }
+}
+
+// The reader of an input: at its first line.
+pub fn new<'a>(src: &'a [u8]) -> LineReader<'a>
+    ensures { λ r. ⌜ (r .src ≡ src .entry) × (r .at ≡ 0) × (r .line ≡ 1) ⌝ }
+{
+    LineReader {
+        src,
+        at: 0,
+        line: 1,
+    }
+}
+
+// The line that the reader is at.
+pub fn next_line<'a>(r: LineReader<'a>) -> Line
+    ensures { λ l. ⌜ l ≡ lineAt (now (r .entry .src)) (r .entry .at) ⌝ }
+{
+    line_at(r.src, r.at)
+}
+
+// Its number.
+pub fn line_number<'a>(r: LineReader<'a>) -> usize
+    ensures { λ n. ⌜ n ≡ r .entry .line ⌝ }
+{
+    r.line
+}
+
+// The reader at the line after, which begins at `next`.
+pub fn moved<'a>(r: LineReader<'a>, next: usize) -> LineReader<'a>
+    requires { ⌜ r .line + 1 < 2 ^ 64 ⌝ }
+    ensures { λ q. ⌜ (q .src ≡ r .entry .src) × (q .at ≡ next) × (q .line ≡ r .entry .line + 1) ⌝ }
+{
+    LineReader {
+        src: r.src,
+        at: next,
+        line: r.line + 1,
+    }
+}
