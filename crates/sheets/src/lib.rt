@@ -1,0 +1,612 @@
+// The tables with tasks as a lent slice of records: thin functions copy the records out, one after the other, and the covered functions over numbers do the work. What a record's numbers are stands in specs/Sheet.
+use boards::FreshBoard;
+use entries::FigureAnswer;
+use entries::RowAnswer;
+use entries::TaskRowAnswer;
+use lockboard::Board;
+use lockboard::BoardAnswer;
+use lockboard::Event;
+use lockboard::Outcome;
+use reader::PlanAnswer;
+use tables::PlanRecord;
+ghost use mathlib.Core.Path.{_≡_};
+ghost use mathlib.Core.List.{[], _∷_, _++_};
+ghost use Prim.Native.Nat.{_+_, _*_, _<_, _≤_, min};
+ghost use lib.ListN.{length, getD, take, drop};
+ghost use lib.Seq.{sets};
+ghost use Rattle.tables.specs.Layout.{over};
+ghost use Rattle.tables.specs.Given.{isGiven};
+ghost use Rattle.entries.specs.Asked.{vcpuAsked, waitAsked, taskAsked, responseAsked};
+ghost use Rattle.lockboard.specs.declared.Event as Event;
+ghost use Rattle.boards.specs.Entered.{freshFor, stepFor};
+ghost use Rattle.reader.specs.Into.{planAnswer, tablesAfter};
+ghost use Rattle.sheets.specs.Sheet.{noTask, taskNums, sheetRows, cutTo, tablesOf, noRows, lockOf, taskOf, saved, countOf, sheetsAfter};
+
+// A lock of a task: its mutex, the ticks under it, the run after it.
+pub struct Lock {
+    pub m: u64,
+    pub t: u64,
+    pub run: u64,
+}
+
+// A task: its VCPU, its number, its period, its first run, how many locks it has, and its locks.
+pub struct Task {
+    pub v: u64,
+    pub n: u64,
+    pub period: u64,
+    pub first: u64,
+    pub count: u64,
+    pub locks: [Lock; 8],
+}
+
+// Room for the numbers of 64 records, all 0.
+fn no_rows() -> [u64; 1856]
+    ensures { λ r. ⌜ r ≡ noRows ⌝ }
+{
+    [0u64; 1856]
+}
+
+// The least of n and 64.
+fn few(n: usize) -> usize
+    ensures { λ r. ⌜ r ≡ min n 64 ⌝ }
+{
+    if n < 64 { n } else { 64 }
+}
+
+// How many numbers n records have.
+fn width(n: usize) -> usize
+    requires { ⌜ n ≤ 64 ⌝ }
+    ensures { λ r. ⌜ r ≡ n * 29 ⌝ }
+{
+    n * 29
+}
+
+// Writes three numbers from k on.
+fn put_three(d: &mut [u64], k: usize, a: u64, b: u64, c: u64)
+    requires { ⌜ k + 3 ≤ length (now d) ⌝ }
+    ensures { λ r. ⌜ now (d .exit) ≡ sets (now (d .entry)) k (a ∷ b ∷ c ∷ []) ⌝ }
+{
+    d[k] = a;
+    d[k + 1] = b;
+    d[k + 2] = c;
+}
+
+// Writes five numbers from k on.
+fn put_five(d: &mut [u64], k: usize, a: u64, b: u64, c: u64, e: u64, f: u64)
+    requires { ⌜ k + 5 ≤ length (now d) ⌝ }
+    ensures { λ r. ⌜ now (d .exit) ≡ sets (now (d .entry)) k (a ∷ b ∷ c ∷ e ∷ f ∷ []) ⌝ }
+{
+    d[k] = a;
+    d[k + 1] = b;
+    d[k + 2] = c;
+    d[k + 3] = e;
+    d[k + 4] = f;
+}
+
+// Writes the numbers of a record as row i.
+fn put_row(d: &mut [u64], i: usize, t: Task)
+    requires { ⌜ (i < 64) × (1856 ≤ length (now d)) ⌝ }
+    ensures { λ r. ⌜ now (d .exit) ≡ sets (now (d .entry)) (i * 29) (taskNums t) ⌝ }
+{
+    let k = i * 29;
+    put_five(d, k, t.v, t.n, t.period, t.first, t.count);
+    let mut j = 0;
+    while j < 8 {
+        let l = t.locks[j];
+        put_three(d, k + 5 + j * 3, l.m, l.t, l.run);
+        j += 1;
+    }
+}
+
+// The record at i.
+fn task_at(tasks: &[Task], i: usize) -> Task
+    requires { ⌜ i < length (now tasks) ⌝ }
+    ensures { λ r. ⌜ r ≡ getD (now (tasks .entry)) i noTask ⌝ }
+{
+    tasks[i]
+}
+
+// Copies the first 64 records into rows of numbers, and returns how many numbers they have.
+fn load(tasks: &[Task], rows: &mut [u64]) -> usize
+    requires { ⌜ 1856 ≤ length (now rows) ⌝ }
+    ensures { λ r. ⌜ (r ≡ length (sheetRows (cutTo 64 (now (tasks .entry))))) × (now (rows .exit) ≡ over (sheetRows (cutTo 64 (now (tasks .entry)))) (now (rows .entry))) ⌝ }
+{
+    let n = few(tasks.len());
+    let mut i: usize = 0;
+    while i < n {
+        put_row(rows, i, task_at(tasks, i));
+        i += 1;
+    }
+    width(n)
+}
+
+// The test for 9 on the first c numbers of the rows.
+fn given_in(r: PlanRecord, vt: &[u64], mt: &[u64], ot: &[u64], rows: &[u64], c: usize) -> bool
+    requires { ⌜ c ≤ length (now rows) ⌝ }
+    ensures { λ a. ⌜ a ≡ isGiven r (record { vcpus = now (vt .entry); mutexes = now (mt .entry); opens = now (ot .entry); tasks = take c (now (rows .entry)) }) ⌝ }
+{
+    given::is_given(r, vt, mt, ot, &rows[..c])
+}
+
+// The test for 9: does some accepted plan give these tables with this record?
+pub fn is_given(r: PlanRecord, vt: &[u64], mt: &[u64], ot: &[u64], tasks: &[Task]) -> bool
+    ensures { λ a. ⌜ a ≡ isGiven r (tablesOf (now (vt .entry)) (now (mt .entry)) (now (ot .entry)) (now (tasks .entry))) ⌝ }
+{
+    let mut rows = no_rows();
+    let c = load(tasks, &mut rows);
+    given_in(r, vt, mt, ot, &rows, c)
+}
+
+// How late VCPU v can finish, on the first c numbers of the rows.
+fn vcpu_in(
+    r: PlanRecord,
+    vt: &[u64],
+    mt: &[u64],
+    ot: &[u64],
+    rows: &[u64],
+    v: u64,
+    c: usize,
+) -> RowAnswer
+    requires { ⌜ c ≤ length (now rows) ⌝ }
+    ensures { λ a. ⌜ a ≡ vcpuAsked r (record { vcpus = now (vt .entry); mutexes = now (mt .entry); opens = now (ot .entry); tasks = take c (now (rows .entry)) }) v ⌝ }
+{
+    entries::vcpu_time(r, vt, mt, ot, &rows[..c], v)
+}
+
+// How late VCPU v can finish.
+pub fn vcpu_time(
+    r: PlanRecord,
+    vt: &[u64],
+    mt: &[u64],
+    ot: &[u64],
+    tasks: &[Task],
+    v: u64,
+) -> RowAnswer
+    ensures { λ a. ⌜ a ≡ vcpuAsked r (tablesOf (now (vt .entry)) (now (mt .entry)) (now (ot .entry)) (now (tasks .entry))) v ⌝ }
+{
+    let mut rows = no_rows();
+    let c = load(tasks, &mut rows);
+    vcpu_in(r, vt, mt, ot, &rows, v, c)
+}
+
+// How long task (v, n) can wait at its lock place i, on the first c numbers of the rows.
+fn wait_in(
+    r: PlanRecord,
+    vt: &[u64],
+    mt: &[u64],
+    ot: &[u64],
+    rows: &[u64],
+    v: u64,
+    n: u64,
+    i: u64,
+    c: usize,
+) -> RowAnswer
+    requires { ⌜ c ≤ length (now rows) ⌝ }
+    ensures { λ a. ⌜ a ≡ waitAsked r (record { vcpus = now (vt .entry); mutexes = now (mt .entry); opens = now (ot .entry); tasks = take c (now (rows .entry)) }) v n i ⌝ }
+{
+    entries::wait_time(r, vt, mt, ot, &rows[..c], v, n, i)
+}
+
+// How long task (v, n) can wait at its lock place i.
+pub fn wait_time(
+    r: PlanRecord,
+    vt: &[u64],
+    mt: &[u64],
+    ot: &[u64],
+    tasks: &[Task],
+    v: u64,
+    n: u64,
+    i: u64,
+) -> RowAnswer
+    ensures { λ a. ⌜ a ≡ waitAsked r (tablesOf (now (vt .entry)) (now (mt .entry)) (now (ot .entry)) (now (tasks .entry))) v n i ⌝ }
+{
+    let mut rows = no_rows();
+    let c = load(tasks, &mut rows);
+    wait_in(r, vt, mt, ot, &rows, v, n, i, c)
+}
+
+// How late task (v, n) can finish, on the first c numbers of the rows.
+fn task_in(
+    r: PlanRecord,
+    vt: &[u64],
+    mt: &[u64],
+    ot: &[u64],
+    rows: &[u64],
+    v: u64,
+    n: u64,
+    c: usize,
+) -> TaskRowAnswer
+    requires { ⌜ c ≤ length (now rows) ⌝ }
+    ensures { λ a. ⌜ a ≡ taskAsked r (record { vcpus = now (vt .entry); mutexes = now (mt .entry); opens = now (ot .entry); tasks = take c (now (rows .entry)) }) v n ⌝ }
+{
+    entries::task_time(r, vt, mt, ot, &rows[..c], v, n)
+}
+
+// How late task (v, n) can finish.
+pub fn task_time(
+    r: PlanRecord,
+    vt: &[u64],
+    mt: &[u64],
+    ot: &[u64],
+    tasks: &[Task],
+    v: u64,
+    n: u64,
+) -> TaskRowAnswer
+    ensures { λ a. ⌜ a ≡ taskAsked r (tablesOf (now (vt .entry)) (now (mt .entry)) (now (ot .entry)) (now (tasks .entry))) v n ⌝ }
+{
+    let mut rows = no_rows();
+    let c = load(tasks, &mut rows);
+    task_in(r, vt, mt, ot, &rows, v, n, c)
+}
+
+// The response of task (v, n) at its lock place i, on the first c numbers of the rows.
+fn response_in(
+    r: PlanRecord,
+    vt: &[u64],
+    mt: &[u64],
+    ot: &[u64],
+    rows: &[u64],
+    v: u64,
+    n: u64,
+    i: u64,
+    c: usize,
+) -> FigureAnswer
+    requires { ⌜ c ≤ length (now rows) ⌝ }
+    ensures { λ a. ⌜ a ≡ responseAsked r (record { vcpus = now (vt .entry); mutexes = now (mt .entry); opens = now (ot .entry); tasks = take c (now (rows .entry)) }) v n i ⌝ }
+{
+    entries::section_response(r, vt, mt, ot, &rows[..c], v, n, i)
+}
+
+// The response of the global section of task (v, n) at its lock place i.
+pub fn section_response(
+    r: PlanRecord,
+    vt: &[u64],
+    mt: &[u64],
+    ot: &[u64],
+    tasks: &[Task],
+    v: u64,
+    n: u64,
+    i: u64,
+) -> FigureAnswer
+    ensures { λ a. ⌜ a ≡ responseAsked r (tablesOf (now (vt .entry)) (now (mt .entry)) (now (ot .entry)) (now (tasks .entry))) v n i ⌝ }
+{
+    let mut rows = no_rows();
+    let c = load(tasks, &mut rows);
+    response_in(r, vt, mt, ot, &rows, v, n, i, c)
+}
+
+// The board at first, on the first c numbers of the rows.
+fn fresh_in(r: PlanRecord, vt: &[u64], mt: &[u64], ot: &[u64], rows: &[u64], c: usize) -> FreshBoard
+    requires { ⌜ c ≤ length (now rows) ⌝ }
+    ensures { λ a. ⌜ a ≡ freshFor r (record { vcpus = now (vt .entry); mutexes = now (mt .entry); opens = now (ot .entry); tasks = take c (now (rows .entry)) }) ⌝ }
+{
+    boards::fresh(r, vt, mt, ot, &rows[..c])
+}
+
+// The board at first: 9 where no accepted plan gives the tables.
+pub fn fresh(r: PlanRecord, vt: &[u64], mt: &[u64], ot: &[u64], tasks: &[Task]) -> FreshBoard
+    ensures { λ a. ⌜ a ≡ freshFor r (tablesOf (now (vt .entry)) (now (mt .entry)) (now (ot .entry)) (now (tasks .entry))) ⌝ }
+{
+    let mut rows = no_rows();
+    let c = load(tasks, &mut rows);
+    fresh_in(r, vt, mt, ot, &rows, c)
+}
+
+// One event, on the first c numbers of the rows.
+fn step_in(
+    b: Board,
+    r: PlanRecord,
+    vt: &[u64],
+    mt: &[u64],
+    ot: &[u64],
+    rows: &[u64],
+    e: Event,
+    c: usize,
+) -> Outcome
+    requires { ⌜ c ≤ length (now rows) ⌝ }
+    ensures { λ a. ⌜ a ≡ stepFor r (record { vcpus = now (vt .entry); mutexes = now (mt .entry); opens = now (ot .entry); tasks = take c (now (rows .entry)) }) b e ⌝ }
+{
+    boards::step(b, r, vt, mt, ot, &rows[..c], e)
+}
+
+// One event.
+pub fn step(
+    b: Board,
+    r: PlanRecord,
+    vt: &[u64],
+    mt: &[u64],
+    ot: &[u64],
+    tasks: &[Task],
+    e: Event,
+) -> Outcome
+    ensures { λ a. ⌜ a ≡ stepFor r (tablesOf (now (vt .entry)) (now (mt .entry)) (now (ot .entry)) (now (tasks .entry))) b e ⌝ }
+{
+    let mut rows = no_rows();
+    let c = load(tasks, &mut rows);
+    step_in(b, r, vt, mt, ot, &rows, e, c)
+}
+
+// `ask v n m`, on the first c numbers of the rows.
+fn ask_in(
+    b: Board,
+    r: PlanRecord,
+    vt: &[u64],
+    mt: &[u64],
+    ot: &[u64],
+    rows: &[u64],
+    v: u64,
+    n: u64,
+    m: u64,
+    c: usize,
+) -> Outcome
+    requires { ⌜ c ≤ length (now rows) ⌝ }
+    ensures { λ a. ⌜ a ≡ stepFor r (record { vcpus = now (vt .entry); mutexes = now (mt .entry); opens = now (ot .entry); tasks = take c (now (rows .entry)) }) b (Event.Ask v n m) ⌝ }
+{
+    boards::ask(b, r, vt, mt, ot, &rows[..c], v, n, m)
+}
+
+// `ask v n m`
+pub fn ask(
+    b: Board,
+    r: PlanRecord,
+    vt: &[u64],
+    mt: &[u64],
+    ot: &[u64],
+    tasks: &[Task],
+    v: u64,
+    n: u64,
+    m: u64,
+) -> Outcome
+    ensures { λ a. ⌜ a ≡ stepFor r (tablesOf (now (vt .entry)) (now (mt .entry)) (now (ot .entry)) (now (tasks .entry))) b (Event.Ask v n m) ⌝ }
+{
+    let mut rows = no_rows();
+    let c = load(tasks, &mut rows);
+    ask_in(b, r, vt, mt, ot, &rows, v, n, m, c)
+}
+
+// `free v n m`, on the first c numbers of the rows.
+fn free_in(
+    b: Board,
+    r: PlanRecord,
+    vt: &[u64],
+    mt: &[u64],
+    ot: &[u64],
+    rows: &[u64],
+    v: u64,
+    n: u64,
+    m: u64,
+    c: usize,
+) -> Outcome
+    requires { ⌜ c ≤ length (now rows) ⌝ }
+    ensures { λ a. ⌜ a ≡ stepFor r (record { vcpus = now (vt .entry); mutexes = now (mt .entry); opens = now (ot .entry); tasks = take c (now (rows .entry)) }) b (Event.Free v n m) ⌝ }
+{
+    boards::free(b, r, vt, mt, ot, &rows[..c], v, n, m)
+}
+
+// `free v n m`
+pub fn free(
+    b: Board,
+    r: PlanRecord,
+    vt: &[u64],
+    mt: &[u64],
+    ot: &[u64],
+    tasks: &[Task],
+    v: u64,
+    n: u64,
+    m: u64,
+) -> Outcome
+    ensures { λ a. ⌜ a ≡ stepFor r (tablesOf (now (vt .entry)) (now (mt .entry)) (now (ot .entry)) (now (tasks .entry))) b (Event.Free v n m) ⌝ }
+{
+    let mut rows = no_rows();
+    let c = load(tasks, &mut rows);
+    free_in(b, r, vt, mt, ot, &rows, v, n, m, c)
+}
+
+// `use v t`, on the first c numbers of the rows.
+fn use_in(
+    b: Board,
+    r: PlanRecord,
+    vt: &[u64],
+    mt: &[u64],
+    ot: &[u64],
+    rows: &[u64],
+    v: u64,
+    t: u64,
+    c: usize,
+) -> Outcome
+    requires { ⌜ c ≤ length (now rows) ⌝ }
+    ensures { λ a. ⌜ a ≡ stepFor r (record { vcpus = now (vt .entry); mutexes = now (mt .entry); opens = now (ot .entry); tasks = take c (now (rows .entry)) }) b (Event.Use v t) ⌝ }
+{
+    boards::use_ticks(b, r, vt, mt, ot, &rows[..c], v, t)
+}
+
+// `use v t` (the language keeps the word)
+pub fn use_ticks(
+    b: Board,
+    r: PlanRecord,
+    vt: &[u64],
+    mt: &[u64],
+    ot: &[u64],
+    tasks: &[Task],
+    v: u64,
+    t: u64,
+) -> Outcome
+    ensures { λ a. ⌜ a ≡ stepFor r (tablesOf (now (vt .entry)) (now (mt .entry)) (now (ot .entry)) (now (tasks .entry))) b (Event.Use v t) ⌝ }
+{
+    let mut rows = no_rows();
+    let c = load(tasks, &mut rows);
+    use_in(b, r, vt, mt, ot, &rows, v, t, c)
+}
+
+// `top v`, on the first c numbers of the rows.
+fn top_in(
+    b: Board,
+    r: PlanRecord,
+    vt: &[u64],
+    mt: &[u64],
+    ot: &[u64],
+    rows: &[u64],
+    v: u64,
+    c: usize,
+) -> Outcome
+    requires { ⌜ c ≤ length (now rows) ⌝ }
+    ensures { λ a. ⌜ a ≡ stepFor r (record { vcpus = now (vt .entry); mutexes = now (mt .entry); opens = now (ot .entry); tasks = take c (now (rows .entry)) }) b (Event.Top v) ⌝ }
+{
+    boards::top(b, r, vt, mt, ot, &rows[..c], v)
+}
+
+// `top v`
+pub fn top(
+    b: Board,
+    r: PlanRecord,
+    vt: &[u64],
+    mt: &[u64],
+    ot: &[u64],
+    tasks: &[Task],
+    v: u64,
+) -> Outcome
+    ensures { λ a. ⌜ a ≡ stepFor r (tablesOf (now (vt .entry)) (now (mt .entry)) (now (ot .entry)) (now (tasks .entry))) b (Event.Top v) ⌝ }
+{
+    let mut rows = no_rows();
+    let c = load(tasks, &mut rows);
+    top_in(b, r, vt, mt, ot, &rows, v, c)
+}
+
+// `show v n`, on the first c numbers of the rows.
+fn show_in(
+    b: Board,
+    r: PlanRecord,
+    vt: &[u64],
+    mt: &[u64],
+    ot: &[u64],
+    rows: &[u64],
+    v: u64,
+    n: u64,
+    c: usize,
+) -> BoardAnswer
+    requires { ⌜ c ≤ length (now rows) ⌝ }
+    ensures { λ a. ⌜ a ≡ stepFor r (record { vcpus = now (vt .entry); mutexes = now (mt .entry); opens = now (ot .entry); tasks = take c (now (rows .entry)) }) b (Event.Show v n) .answer ⌝ }
+{
+    boards::show(b, r, vt, mt, ot, &rows[..c], v, n)
+}
+
+// `show v n`, which only reads the board
+pub fn show(
+    b: Board,
+    r: PlanRecord,
+    vt: &[u64],
+    mt: &[u64],
+    ot: &[u64],
+    tasks: &[Task],
+    v: u64,
+    n: u64,
+) -> BoardAnswer
+    ensures { λ a. ⌜ a ≡ stepFor r (tablesOf (now (vt .entry)) (now (mt .entry)) (now (ot .entry)) (now (tasks .entry))) b (Event.Show v n) .answer ⌝ }
+{
+    let mut rows = no_rows();
+    let c = load(tasks, &mut rows);
+    show_in(b, r, vt, mt, ot, &rows, v, n, c)
+}
+
+// Lock j of row i.
+fn lock_of(rows: &[u64], i: usize, j: usize) -> Lock
+    requires { ⌜ (i < 64) × (j < 8) ⌝ }
+    ensures { λ a. ⌜ a ≡ lockOf (now (rows .entry)) i j ⌝ }
+{
+    let k = i * 29 + (5 + j * 3);
+    Lock {
+        m: tables::at(rows, k),
+        t: tables::at(rows, k + 1),
+        run: tables::at(rows, k + 2),
+    }
+}
+
+// The record of row i.
+fn task_of(rows: &[u64], i: usize) -> Task
+    requires { ⌜ i < 64 ⌝ }
+    ensures { λ a. ⌜ a ≡ taskOf (now (rows .entry)) i ⌝ }
+{
+    let ls = [
+        lock_of(rows, i, 0),
+        lock_of(rows, i, 1),
+        lock_of(rows, i, 2),
+        lock_of(rows, i, 3),
+        lock_of(rows, i, 4),
+        lock_of(rows, i, 5),
+        lock_of(rows, i, 6),
+        lock_of(rows, i, 7),
+    ];
+    let k = i * 29;
+    Task {
+        v: tables::at(rows, k),
+        n: tables::at(rows, k + 1),
+        period: tables::at(rows, k + 2),
+        first: tables::at(rows, k + 3),
+        count: tables::at(rows, k + 4),
+        locks: ls,
+    }
+}
+
+// How many records an answer writes.
+fn count_of(a: PlanAnswer) -> usize
+    ensures { λ r. ⌜ r ≡ countOf a ⌝ }
+{
+    match a {
+        PlanAnswer::Accepted(r) => r.tasks,
+        PlanAnswer::Refused { number: _, line: _ } => 0,
+    }
+}
+
+// Reads bytes offered as a plan, with room for n records.
+fn read_in(
+    src: &[u8],
+    vt: &mut [u64],
+    mt: &mut [u64],
+    ot: &mut [u64],
+    rows: &mut [u64],
+    n: usize,
+) -> PlanAnswer
+    requires { ⌜ 1856 ≤ length (now rows) ⌝ }
+    ensures { λ a. ⌜ (a ≡ planAnswer (now (src .entry)) (record { vcpus = now (vt .entry); mutexes = now (mt .entry); opens = now (ot .entry); tasks = take (min n 64 * 29) (now (rows .entry)) }))
+        × ((now (vt .exit) ≡ tablesAfter (now (src .entry)) (record { vcpus = now (vt .entry); mutexes = now (mt .entry); opens = now (ot .entry); tasks = take (min n 64 * 29) (now (rows .entry)) }) .vcpus)
+        × ((now (mt .exit) ≡ tablesAfter (now (src .entry)) (record { vcpus = now (vt .entry); mutexes = now (mt .entry); opens = now (ot .entry); tasks = take (min n 64 * 29) (now (rows .entry)) }) .mutexes)
+        × ((now (ot .exit) ≡ tablesAfter (now (src .entry)) (record { vcpus = now (vt .entry); mutexes = now (mt .entry); opens = now (ot .entry); tasks = take (min n 64 * 29) (now (rows .entry)) }) .opens)
+        × (now (rows .exit) ≡ tablesAfter (now (src .entry)) (record { vcpus = now (vt .entry); mutexes = now (mt .entry); opens = now (ot .entry); tasks = take (min n 64 * 29) (now (rows .entry)) }) .tasks ++ drop (min n 64 * 29) (now (rows .entry)))))) ⌝ }
+{
+    let k = width(few(n));
+    reader::read_plan(src, vt, mt, ot, &mut rows[..k])
+}
+
+// Writes the first n rows of numbers as records.
+fn save(tasks: &mut [Task], rows: &[u64], n: usize)
+    requires { ⌜ (n ≤ 64) × (n ≤ length (now tasks)) ⌝ }
+    ensures { λ a. ⌜ now (tasks .exit) ≡ saved (now (tasks .entry)) (now (rows .entry)) n ⌝ }
+{
+    let mut i: usize = 0;
+    while i < n {
+        let t = task_of(rows, i);
+        tasks[i] = t;
+        i += 1;
+    }
+}
+
+// Reads bytes offered as a plan into lent tables. A refusal leaves the tables as they were lent.
+pub fn read_plan(
+    src: &[u8],
+    vt: &mut [u64],
+    mt: &mut [u64],
+    ot: &mut [u64],
+    tasks: &mut [Task],
+) -> PlanAnswer
+    ensures { λ a. ⌜ (a ≡ planAnswer (now (src .entry)) (tablesOf (now (vt .entry)) (now (mt .entry)) (now (ot .entry)) (now (tasks .entry))))
+        × ((now (vt .exit) ≡ tablesAfter (now (src .entry)) (tablesOf (now (vt .entry)) (now (mt .entry)) (now (ot .entry)) (now (tasks .entry))) .vcpus)
+        × ((now (mt .exit) ≡ tablesAfter (now (src .entry)) (tablesOf (now (vt .entry)) (now (mt .entry)) (now (ot .entry)) (now (tasks .entry))) .mutexes)
+        × ((now (ot .exit) ≡ tablesAfter (now (src .entry)) (tablesOf (now (vt .entry)) (now (mt .entry)) (now (ot .entry)) (now (tasks .entry))) .opens)
+        × (now (tasks .exit) ≡ sheetsAfter (now (src .entry)) (now (vt .entry)) (now (mt .entry)) (now (ot .entry)) (now (tasks .entry)))))) ⌝ }
+{
+    let mut rows = no_rows();
+    let a = read_in(src, vt, mt, ot, &mut rows, tasks.len());
+    let n = count_of(a);
+    save(tasks, &rows, n);
+    a
+}
