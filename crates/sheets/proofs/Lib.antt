@@ -1,3 +1,5 @@
 pub mod Kit
 pub mod Lent
 pub mod Face
+pub mod Both
+pub mod LentTasks

@@ -10,6 +10,10 @@ use Rattle.entries.specs.declared.RowAnswer.the-variants.{NoRow}
 use Rattle.entries.specs.declared.TaskRowAnswer.the-variants.{NoTaskRow}
 use Rattle.entries.specs.declared.FigureAnswer.the-variants.{NoFigure}
 use Rattle.entries.specs.Asked.{vcpuRowOf, waitRowOf, taskRowOf, responseRowOf, vcpuAsked, waitAsked, taskAsked, responseAsked}
+use Rattle.listing.specs.Listing.{listing}
+use Rattle.writers.specs.declared.TextAnswer.the-variants.{Refused}
+use Rattle.writers.specs.Into.{textAnswer, textAfter}
+use Rattle.lister.specs.Asked.{listingAsked, listingLeft}
 use Rattle.lockboard.specs.Facts.{factsOf}
 use Rattle.lockboard.specs.declared.Board.{Board}
 use Rattle.lockboard.specs.declared.Event.{Event}
@@ -43,3 +47,11 @@ module _ (vt mt ot : List ℕ) (ks : List Task) (r : PlanRecord) where
   pub step-cut : (b : Board) (e : Event) → stepFor r (tablesOf vt mt ot (cutTo maxTasks ks)) b e ≡ stepFor r (tablesOf vt mt ot ks) b e
   unfolding stepFor
   step-cut b e = cut-told vt mt ot ks (λ p. board.stepOn (factsOf (system p)) b e) (board.refused b Foreign) r
+
+  pub listing-cut : (o : List ℕ) → listingAsked r (tablesOf vt mt ot (cutTo maxTasks ks)) o ≡ listingAsked r (tablesOf vt mt ot ks) o
+  unfolding listingAsked
+  listing-cut o = cut-told vt mt ot ks (λ p. textAnswer (listing (system p)) o) (Refused Foreign) r
+
+  pub left-cut : (o : List ℕ) → listingLeft r (tablesOf vt mt ot (cutTo maxTasks ks)) o ≡ listingLeft r (tablesOf vt mt ot ks) o
+  unfolding listingLeft
+  left-cut o = cut-told vt mt ot ks (λ p. textAfter (listing (system p)) o) o r

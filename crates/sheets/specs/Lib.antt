@@ -4,3 +4,4 @@ pub mod CutLaws
 pub mod FaceLaws
 pub mod SaveLaws
 pub mod ReadLaws
+pub mod Blank

@@ -9,6 +9,7 @@ use lockboard::Event;
 use lockboard::Outcome;
 use reader::PlanAnswer;
 use tables::PlanRecord;
+use writers::TextAnswer;
 ghost use mathlib.Core.Path.{_≡_};
 ghost use mathlib.Core.List.{[], _∷_, _++_};
 ghost use Prim.Native.Nat.{_+_, _*_, _<_, _≤_, min};
@@ -20,6 +21,8 @@ ghost use Rattle.entries.specs.Asked.{vcpuAsked, waitAsked, taskAsked, response
 ghost use Rattle.lockboard.specs.declared.Event as Event;
 ghost use Rattle.boards.specs.Entered.{freshFor, stepFor};
 ghost use Rattle.reader.specs.Into.{planAnswer, tablesAfter};
+ghost use Rattle.lister.specs.Asked.{listingAsked, listingLeft};
+ghost use Rattle.sheets.specs.Blank.{noTasks};
 ghost use Rattle.sheets.specs.Sheet.{noTask, taskNums, sheetRows, cutTo, tablesOf, noRows, lockOf, taskOf, saved, countOf, sheetsAfter};
 
 // A lock of a task: its mutex, the ticks under it, the run after it.
@@ -508,6 +511,40 @@ pub fn show(
     show_in(b, r, vt, mt, ot, &rows, v, n, c)
 }
 
+// The listing into a lent buffer, on the first c numbers of the rows.
+fn listing_in(
+    r: PlanRecord,
+    vt: &[u64],
+    mt: &[u64],
+    ot: &[u64],
+    rows: &[u64],
+    out: &mut [u8],
+    c: usize,
+) -> TextAnswer
+    requires { ⌜ c ≤ length (now rows) ⌝ }
+    ensures { λ a. ⌜ (a ≡ listingAsked r (record { vcpus = now (vt .entry); mutexes = now (mt .entry); opens = now (ot .entry); tasks = take c (now (rows .entry)) }) (now (out .entry)))
+        × (now (out .exit) ≡ listingLeft r (record { vcpus = now (vt .entry); mutexes = now (mt .entry); opens = now (ot .entry); tasks = take c (now (rows .entry)) }) (now (out .entry))) ⌝ }
+{
+    lister::write_listing(r, vt, mt, ot, &rows[..c], out)
+}
+
+// Writes the listing of the plan in lent tables into a lent buffer: 9 first, then 8.
+pub fn write_listing(
+    r: PlanRecord,
+    vt: &[u64],
+    mt: &[u64],
+    ot: &[u64],
+    tasks: &[Task],
+    out: &mut [u8],
+) -> TextAnswer
+    ensures { λ a. ⌜ a ≡ listingAsked r (tablesOf (now (vt .entry)) (now (mt .entry)) (now (ot .entry)) (now (tasks .entry))) (now (out .entry)) ⌝ }
+    ensures { λ a. ⌜ now (out .exit) ≡ listingLeft r (tablesOf (now (vt .entry)) (now (mt .entry)) (now (ot .entry)) (now (tasks .entry))) (now (out .entry)) ⌝ }
+{
+    let mut rows = no_rows();
+    let c = load(tasks, &mut rows);
+    listing_in(r, vt, mt, ot, &rows, out, c)
+}
+
 // Lock j of row i.
 fn lock_of(rows: &[u64], i: usize, j: usize) -> Lock
     requires { ⌜ (i < 64) × (j < 8) ⌝ }
@@ -608,5 +645,43 @@ pub fn read_plan(
     let a = read_in(src, vt, mt, ot, &mut rows, tasks.len());
     let n = count_of(a);
     save(tasks, &rows, n);
+    a
+}
+
+// A table of 64 blank records.
+fn no_tasks() -> [Task; 64]
+    ensures { λ r. ⌜ r ≡ noTasks ⌝ }
+{
+    let l = Lock { m: 0, t: 0, run: 0 };
+    let ls = [l; 8];
+    let t = Task {
+        v: 0,
+        n: 0,
+        period: 0,
+        first: 0,
+        count: 0,
+        locks: ls,
+    };
+    [t; 64]
+}
+
+// Reads bytes offered as a plan into a table of 64 records, and copies the records into lent rows of numbers.
+pub fn read_rows(
+    src: &[u8],
+    vt: &mut [u64],
+    mt: &mut [u64],
+    ot: &mut [u64],
+    rows: &mut [u64],
+) -> PlanAnswer
+    requires { ⌜ length (now rows) ≡ 1856 ⌝ }
+    ensures { λ a. ⌜ (a ≡ planAnswer (now (src .entry)) (tablesOf (now (vt .entry)) (now (mt .entry)) (now (ot .entry)) noTasks))
+        × ((now (vt .exit) ≡ tablesAfter (now (src .entry)) (tablesOf (now (vt .entry)) (now (mt .entry)) (now (ot .entry)) noTasks) .vcpus)
+        × ((now (mt .exit) ≡ tablesAfter (now (src .entry)) (tablesOf (now (vt .entry)) (now (mt .entry)) (now (ot .entry)) noTasks) .mutexes)
+        × ((now (ot .exit) ≡ tablesAfter (now (src .entry)) (tablesOf (now (vt .entry)) (now (mt .entry)) (now (ot .entry)) noTasks) .opens)
+        × (now (rows .exit) ≡ tablesAfter (now (src .entry)) (tablesOf (now (vt .entry)) (now (mt .entry)) (now (ot .entry)) noTasks) .tasks)))) ⌝ }
+{
+    let mut tasks = no_tasks();
+    let a = read_plan(src, vt, mt, ot, &mut tasks);
+    load(&tasks, rows);
     a
 }

@@ -1,5 +1,7 @@
 -- `events_text` meets its contract.
+use native.Mathlib.Omega.{arith}
 use borrow.Author.Needs.{needs}
+use Rattle.sheets.specs.Blank.{blank-long}
 use Rattle.desk.specs.Told.{left-sure, left-events}
 use Rattle.desk.proofs.events_text.Statement.{statement}
 use Rattle.desk.proofs.events_text.Tie as tie
@@ -7,16 +9,16 @@ use Rattle.desk.proofs.events_text.Tie as tie
 sure : tie.Need-answers-or-requires
 sure c κs =
     let a = c .before .before .before .before .before .before .before .before .before in
-    let e = a .read-plan .ensures in
+    let e = a .read-rows .ensures in
     let b = a .before .before .before .before .before .before .before .before in
-    (left-sure _ (record { ample = record { vcpus = search needs; mutexes = search needs; opens = search needs; tasks = search needs } }) (e .0) (e .1 .0) (e .1 .1 .0) (e .1 .1 .1 .0) (e .1 .1 .1 .1), b .pre)
+    (left-sure _ (record { ample = record { vcpus = search needs; mutexes = search needs; opens = search needs; tasks = omega (arith, blank-long) } }) (e .0) (e .1 .0) (e .1 .1 .0) (e .1 .1 .1 .0) (e .1 .1 .1 .1), b .pre)
 
 returns : tie.Need-returns
 returns c =
     let x = c .before .before in
     let a = x .before .before .before .before .before .before .before .before .before .before in
-    let e = a .read-plan .ensures in
-    left-events _ (record { ample = record { vcpus = search needs; mutexes = search needs; opens = search needs; tasks = search needs } }) (e .0) (e .1 .0) (e .1 .1 .0) (e .1 .1 .1 .0) (e .1 .1 .1 .1) _ _
+    let e = a .read-rows .ensures in
+    left-events _ (record { ample = record { vcpus = search needs; mutexes = search needs; opens = search needs; tasks = omega (arith, blank-long) } }) (e .0) (e .1 .0) (e .1 .1 .0) (e .1 .1 .1 .0) (e .1 .1 .1 .1) _ _
     (x .answers-or .ensures)
 
 pub events-text-spec : {M : Type 1} → statement M

@@ -1,0 +1,100 @@
+/* Times the proved functions and the oracle's on one input, in one process.
+ *
+ *   harness NAME PLAN [EVENTS]
+ *
+ * prints NAME, the bytes in, the bytes out, the nanoseconds of one proved call and of one Rust call, and their ratio.
+ * The two sides take turns; a sample is as many calls as take some milliseconds; the best sample counts. Status 1 where
+ * the two texts differ. With ONLY=proved or ONLY=rust one side runs alone for a second, for a profile. */
+#include <stdio.h>
+#include <stdlib.h>
+#include <string.h>
+#include <time.h>
+
+#include "../examples/c/ryefrost.h"
+
+int64_t rust_verdict(const uint8_t *, size_t, uint8_t *, size_t);
+int64_t rust_board(const uint8_t *, size_t, const uint8_t *, size_t, uint8_t *, size_t);
+
+enum { LIMIT = 1 << 20, SAMPLES = 40 };
+
+static uint8_t plan[LIMIT], events[LIMIT], proved_out[RYEFROST_BOARD_BYTES], rust_out[RYEFROST_BOARD_BYTES];
+static size_t plan_size, events_size;
+static int has_events;
+
+static size_t read_file(const char *path, uint8_t *to) {
+    FILE *f = fopen(path, "rb");
+    if (!f) {
+        perror(path);
+        exit(2);
+    }
+    size_t n = fread(to, 1, LIMIT, f);
+    fclose(f);
+    return n;
+}
+
+static int64_t proved(void) {
+    return has_events ? ryefrost_board(plan, plan_size, events, events_size, proved_out, sizeof proved_out)
+                      : ryefrost_verdict(plan, plan_size, proved_out, sizeof proved_out);
+}
+
+static int64_t rust(void) {
+    return has_events ? rust_board(plan, plan_size, events, events_size, rust_out, sizeof rust_out)
+                      : rust_verdict(plan, plan_size, rust_out, sizeof rust_out);
+}
+
+static double now(void) {
+    struct timespec t;
+    clock_gettime(CLOCK_MONOTONIC, &t);
+    return t.tv_sec * 1e9 + t.tv_nsec;
+}
+
+static volatile int64_t kept;
+
+static double sample(int64_t (*call)(void), long calls) {
+    double from = now();
+    for (long i = 0; i < calls; i++)
+        kept = call();
+    return (now() - from) / calls;
+}
+
+/* As many calls as take four milliseconds or more; it warms up as it counts. */
+static long calls_for(int64_t (*call)(void)) {
+    long calls = 1;
+    while (sample(call, calls) * calls < 4e6)
+        calls *= 2;
+    return calls;
+}
+
+int main(int argc, char **argv) {
+    if (argc < 3 || argc > 4) {
+        fprintf(stderr, "usage: harness NAME PLAN [EVENTS]\n");
+        return 2;
+    }
+    plan_size = read_file(argv[2], plan);
+    has_events = argc == 4;
+    if (has_events)
+        events_size = read_file(argv[3], events);
+
+    int64_t a = proved(), b = rust();
+    if (a < 0 || a != b || memcmp(proved_out, rust_out, (size_t)a) != 0) {
+        fprintf(stderr, "harness: %s: the two texts differ\n", argv[1]);
+        return 1;
+    }
+    const char *only = getenv("ONLY");
+    if (only) {
+        for (double from = now(); now() - from < 1e9;)
+            kept = strcmp(only, "rust") ? proved() : rust();
+        return 0;
+    }
+
+    long m = calls_for(proved), n = calls_for(rust);
+    double best_proved = 1e300, best_rust = 1e300;
+    for (int i = 0; i < SAMPLES; i++) {
+        double p = sample(proved, m), r = sample(rust, n);
+        best_proved = p < best_proved ? p : best_proved;
+        best_rust = r < best_rust ? r : best_rust;
+    }
+    printf("%-20s %7zu %7lld %14.0f %14.0f %8.2f\n", argv[1], plan_size + events_size, (long long)a, best_proved,
+           best_rust, best_proved / best_rust);
+    return 0;
+}

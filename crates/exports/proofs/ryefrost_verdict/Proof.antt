@@ -1,0 +1,21 @@
+-- `ryefrost_verdict` meets its contract.
+use Prim.Native.Nat.{_≤_, _<_}
+use mathlib.Core.Path.{ap, _∙_}
+use native.Mathlib.Nat.{le-refl, lt-of-le-of-lt}
+use lib.Dec.{lit<}
+use borrow.Author.Needs.{needs}
+use Rattle.desk.specs.Whole.{verdictBytes, verdict-fits}
+use Rattle.exports.specs.Exported.{exported, answer-bound, exported-fits, read-back}
+use Rattle.exports.proofs.ryefrost_verdict.Statement.{statement}
+use Rattle.exports.proofs.ryefrost_verdict.Tie as tie
+
+small : tie.Need-exported-requires
+small c κs = lt-of-le-of-lt (answer-bound _ _ (c .before .before .verdict-text .ensures .0) (verdict-fits _ {m = verdictBytes} (le-refl _))) (lit< tt)
+
+returns : tie.Need-returns
+returns c =
+    let e = c .before .before .before .verdict-text .ensures in
+    (read-back (exported-fits _ (small (c .before) _)) (c .exported .ensures) ∙ ap exported (e .0), e .1)
+
+pub ryefrost-verdict-spec : {M : Type 1} → statement M
+ryefrost-verdict-spec = tie.close (tie.spec (λ c κs. search needs) small (λ c. search needs) returns)
