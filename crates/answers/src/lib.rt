@@ -70,7 +70,7 @@ fn fill_vcpus(
     rows: &mut [u64],
     va: &mut [u64],
 )
-    requires { ⌜ Fit r (now vt) (now mt) (now ts) × TasksIn r (now vt) (now mt) (now ts) (now tf) × VcpusIn r (now vt) (now mt) (now ts) (now vf) × (1800 ≤ length (now rows)) × (48 ≤ length (now va)) ⌝ }
+    requires { ⌜ Fit r (now vt) (now mt) (now ts) × TasksIn r (now vt) (now mt) (now ts) (now tf) × VcpusIn r (now vt) (now mt) (now ts) (now vf) × (240 ≤ length (now rows)) × (48 ≤ length (now va)) ⌝ }
     ensures { λ out. ⌜ now (va .exit) ≡ over (vcpuAnswers (systemIn r (now (vt .entry)) (now (mt .entry)) (now (ts .entry)))) (now (va .entry)) ⌝ }
 {
     let n = r.vcpus;
@@ -102,7 +102,7 @@ fn wait_at(
     i: usize,
     j: usize,
 ) -> Answer
-    requires { ⌜ Fit r (now vt) (now mt) (now ts) × ResponsesIn r (now vt) (now mt) (now ts) (now rf) × (512 ≤ length (now rf)) × (i < r .tasks) × (j < 8) × (global (systemIn r (now vt) (now mt) (now ts) .mutexes) (lockRow (now ts) i j .m) ≡ true) × (1800 ≤ length (now rows)) ⌝ }
+    requires { ⌜ Fit r (now vt) (now mt) (now ts) × ResponsesIn r (now vt) (now mt) (now ts) (now rf) × (512 ≤ length (now rf)) × (i < r .tasks) × (j < 8) × (global (systemIn r (now vt) (now mt) (now ts) .mutexes) (lockRow (now ts) i j .m) ≡ true) × (240 ≤ length (now rows)) ⌝ }
     ensures { λ x. ⌜ x ≡ waitAnswer (systemIn r (now (vt .entry)) (now (mt .entry)) (now (ts .entry))) (taskRow (now (ts .entry)) i) (lockRow (now (ts .entry)) i j) ⌝ }
 {
     let v = figures::task_cell(r, vt, mt, ts, i, 0);
@@ -150,7 +150,7 @@ fn put_wait(
     wa: &mut [u64],
     k: usize,
 )
-    requires { ⌜ Fit r (now vt) (now mt) (now ts) × ResponsesIn r (now vt) (now mt) (now ts) (now rf) × (512 ≤ length (now rf)) × (k < r .tasks * 8) × (1800 ≤ length (now rows)) × (1536 ≤ length (now wa)) × ((q : ℕ) → q < k → rowIn (now wa) q ≡ placeAt (systemIn r (now vt) (now mt) (now ts)) (now ts) q) ⌝ }
+    requires { ⌜ Fit r (now vt) (now mt) (now ts) × ResponsesIn r (now vt) (now mt) (now ts) (now rf) × (512 ≤ length (now rf)) × (k < r .tasks * 8) × (240 ≤ length (now rows)) × (1536 ≤ length (now wa)) × ((q : ℕ) → q < k → rowIn (now wa) q ≡ placeAt (systemIn r (now vt) (now mt) (now ts)) (now ts) q) ⌝ }
     ensures { λ out. ⌜ now (wa .exit) ≡ pushed (now (wa .entry)) k (placeAt (systemIn r (now (vt .entry)) (now (mt .entry)) (now (ts .entry))) (now (ts .entry)) k) ⌝ }
 {
     let i = k / 8;
@@ -178,7 +178,7 @@ fn fill_waits(
     rows: &mut [u64],
     wa: &mut [u64],
 )
-    requires { ⌜ Fit r (now vt) (now mt) (now ts) × ResponsesIn r (now vt) (now mt) (now ts) (now rf) × (512 ≤ length (now rf)) × (1800 ≤ length (now rows)) × (1536 ≤ length (now wa)) ⌝ }
+    requires { ⌜ Fit r (now vt) (now mt) (now ts) × ResponsesIn r (now vt) (now mt) (now ts) (now rf) × (512 ≤ length (now rf)) × (240 ≤ length (now rows)) × (1536 ≤ length (now wa)) ⌝ }
     ensures { λ out. ⌜ (now (wa .exit) ≡ over (waitAnswers (systemIn r (now (vt .entry)) (now (mt .entry)) (now (ts .entry)))) (now (wa .entry))) × Places (systemIn r (now (vt .entry)) (now (mt .entry)) (now (ts .entry))) (now (ts .entry)) (r .tasks * 8) (now (wa .exit)) ⌝ }
 {
     let n = r.tasks * 8;
@@ -345,7 +345,7 @@ fn fill_tasks(
     rows: &mut [u64],
     ta: &mut [u64],
 )
-    requires { ⌜ Fit r (now vt) (now mt) (now ts) × TasksIn r (now vt) (now mt) (now ts) (now tf) × BlockingsIn r (now vt) (now mt) (now ts) (now tf) × WaitsIn r (now vt) (now mt) (now ts) (now ws) (now fs) × (1800 ≤ length (now rows)) × (192 ≤ length (now ta)) ⌝ }
+    requires { ⌜ Fit r (now vt) (now mt) (now ts) × TasksIn r (now vt) (now mt) (now ts) (now tf) × BlockingsIn r (now vt) (now mt) (now ts) (now tf) × WaitsIn r (now vt) (now mt) (now ts) (now ws) (now fs) × (240 ≤ length (now rows)) × (192 ≤ length (now ta)) ⌝ }
     ensures { λ out. ⌜ now (ta .exit) ≡ over (taskAnswers (systemIn r (now (vt .entry)) (now (mt .entry)) (now (ts .entry)))) (now (ta .entry)) ⌝ }
 {
     let n = r.tasks;
@@ -374,7 +374,7 @@ pub fn answers(
     ta: &mut [u64],
 )
     requires { ⌜ Fit r (now vt) (now mt) (now ts) × Stored r (now vt) (now mt) (now ts) (now tf) (now vf) (now rf) ⌝ }
-    requires { ⌜ (1800 ≤ length (now rows)) × (64 ≤ length (now ws)) × (64 ≤ length (now fs)) × (48 ≤ length (now va)) × (1536 ≤ length (now wa)) × (192 ≤ length (now ta)) ⌝ }
+    requires { ⌜ (240 ≤ length (now rows)) × (64 ≤ length (now ws)) × (64 ≤ length (now fs)) × (48 ≤ length (now va)) × (1536 ≤ length (now wa)) × (192 ≤ length (now ta)) ⌝ }
     ensures { λ out. ⌜ (now (va .exit) ≡ over (vcpuAnswers (systemIn r (now (vt .entry)) (now (mt .entry)) (now (ts .entry)))) (now (va .entry))) × (now (wa .exit) ≡ over (waitAnswers (systemIn r (now (vt .entry)) (now (mt .entry)) (now (ts .entry)))) (now (wa .entry))) × (now (ta .exit) ≡ over (taskAnswers (systemIn r (now (vt .entry)) (now (mt .entry)) (now (ts .entry)))) (now (ta .entry))) ⌝ }
 {
     fill_vcpus(r, vt, mt, ts, tf, vf, rows, va);

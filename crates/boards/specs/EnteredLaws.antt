@@ -38,10 +38,6 @@ use Rattle.views.specs.ViewOf.{viewOf}
 use Rattle.views.specs.TableLaws.{given-facts}
 use Rattle.boards.specs.Entered.{FreshBoard, Made, NoBoard, factsFrom, noBoard, freshFor, stepFor}
 
--- UNIQUENESS: a contract that is an equation with a definition allows one result
-pub once : {A : Type 0} {a b x : A} → a ≡ x → b ≡ x → a ≡ b
-once e f = e ∙ sym f
-
 -- an answer that is not 9
 abbrev pub NotNine : BoardAnswer → Type 0
 NotNine a = a ≡ Refused Foreign → ⊥
@@ -101,13 +97,6 @@ module _ (r : PlanRecord) (t : Tables) where
   unfoldable pub runFor : Board → List Event → List BoardAnswer
   runFor b [] = []
   runFor b (e ∷ es) = stepFor r t b e .answer ∷ runFor (stepFor r t b e .board) es
-
-  -- UNIQUENESS at the two calls
-  pub fresh-once : {a b : FreshBoard} → a ≡ freshFor r t → b ≡ freshFor r t → a ≡ b
-  fresh-once = once
-
-  pub step-once : {a c : Outcome} (b : Board) (e : Event) → a ≡ stepFor r t b e → c ≡ stepFor r t b e → a ≡ c
-  step-once b e = once
 
   -- TABLES THAT NO ACCEPTED PLAN GIVES
   pub fresh-other : isGiven r t ≡ false → freshFor r t ≡ record { answer = NoBoard Foreign; board = noBoard }

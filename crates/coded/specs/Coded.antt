@@ -11,15 +11,10 @@ use Rattle.model.specs.declared.Refusal.the-variants.{Range, Order, Missing, Ou
 use Rattle.model.specs.Refusals.{unless}
 use Rattle.model.specs.declared.Kind.{Kind}
 use Rattle.model.specs.declared.Kind.the-variants.{PlanLine, PolicyPO, PolicyPN, PolicyDO, PolicyDN, VcpuLine, MutexG, MutexL, OpenLine, GuestLine, TaskLine, RunLine, LockLine, EndLine, AskLine, FreeLine, UseLine, TopLine, ShowLine}
-use Rattle.model.specs.Line.{Item, bad, numsOf}
+use Rattle.model.specs.Line.{Item, numsOf}
 use Rattle.model.specs.Rules.{phase, within, follows, nth, rises, vcpuFits}
 use Rattle.model.specs.Reading.{Judge}
 pub use Rattle.coded.specs.declared.Seen.{Seen}
-
--- are the first n of the numbers written as they should be?
-abbrev pub fits : ℕ → ℕ → ℕ → ℕ → ℕ → ℕ → Bool
-fits n a b c d e =
-    (leb n 0 || ltb a bad) && ((leb n 1 || ltb b bad) && ((leb n 2 || ltb c bad) && ((leb n 3 || ltb d bad) && (leb n 4 || ltb e bad))))
 
 abbrev pub item : Kind → ℕ → ℕ → ℕ → ℕ → ℕ → Item
 item k a b c d e = record { kind = k; nums = numsOf k a b c d e }

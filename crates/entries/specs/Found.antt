@@ -31,7 +31,7 @@ use Rattle.figures.specs.declared.TaskAnswer.{TaskAnswer}
 use Rattle.figures.specs.declared.TaskAnswer.the-variants.{Searched, NoWait, Held}
 use Rattle.figures.specs.Answers.{vcpuAnswer, waitAnswer, taskAnswer}
 use Rattle.stored.specs.Stored.{sectionResponse, Responses}
-use Rattle.stored.specs.StoredLaws.{first-row}
+use Rattle.laws.specs.FirstLaws.{first-row}
 use Rattle.checker.specs.Store.{taskAnswerCells, taskAnswers}
 use Rattle.checker.specs.FitLaws.{system-in}
 use Rattle.entries.specs.Asked.{Row, NoRow, TaskRow, NoTaskRow, Figure, NoFigure, hasPlace, vcpuRowOf, waitRowOf, taskRowOf, responseRowOf}

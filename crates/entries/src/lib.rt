@@ -90,7 +90,7 @@ fn vcpu_answer(r: PlanRecord, vt: &[u64], mt: &[u64], ts: &[u64], a: usize) -> A
     let mut tf = [0u64; 320];
     let mut vf = [0u64; 48];
     let mut rf = [0u64; 512];
-    let mut rows = [0u64; 1800];
+    let mut rows = [0u64; 240];
     stored::stored(r, vt, mt, ts, &mut tf, &mut vf, &mut rf);
     times::vcpu_answer(r, vt, mt, ts, &tf, &vf, &mut rows, a)
 }
@@ -103,7 +103,7 @@ fn wait_answer(r: PlanRecord, vt: &[u64], mt: &[u64], ts: &[u64], k: usize, i: u
     let mut tf = [0u64; 320];
     let mut vf = [0u64; 48];
     let mut rf = [0u64; 512];
-    let mut rows = [0u64; 1800];
+    let mut rows = [0u64; 240];
     stored::stored(r, vt, mt, ts, &mut tf, &mut vf, &mut rf);
     let v = figures::task_cell(r, vt, mt, ts, k, 0);
     let limit = figures::task_cell(r, vt, mt, ts, k, 2);
@@ -159,7 +159,7 @@ fn task_answer(r: PlanRecord, vt: &[u64], mt: &[u64], ts: &[u64], k: usize) -> T
     let mut tf = [0u64; 320];
     let mut vf = [0u64; 48];
     let mut rf = [0u64; 512];
-    let mut rows = [0u64; 1800];
+    let mut rows = [0u64; 240];
     let mut ws = [0u64; 64];
     let mut fs = [0u64; 64];
     let mut va = [0u64; 48];

@@ -279,7 +279,7 @@ fn parts_line(out: &mut [u8], count: u64, word: u64, x: u64, y: u64) -> usize
 }
 
 // Writes an answer's line.
-pub fn answer_line(out: &mut [u8], a: BoardAnswer) -> usize
+fn answer_line(out: &mut [u8], a: BoardAnswer) -> usize
     requires { ⌜ length (line (answerFields a)) ≤ length (now out) ⌝ }
     ensures { λ r. ⌜ Wrote (line (answerFields a)) (now (out .entry)) (now (out .exit)) r ⌝ }
 {

@@ -1,9 +1,8 @@
 -- What holds at a known kind.
 use Prim.Native.Nat.{ℕ}
 use mathlib.Core.Path.{_≡_, refl}
-use mathlib.Core.Bool.{Bool, _&&_, and-true}
+use mathlib.Core.Bool.{Bool, _&&_}
 use Rattle.model.specs.declared.Kind.{Kind}
-use Rattle.model.specs.declared.Kind.the-variants.{PlanLine, PolicyPO, PolicyPN, PolicyDO, PolicyDN, VcpuLine, MutexG, MutexL, OpenLine, GuestLine, TaskLine, RunLine, LockLine, EndLine, AskLine, FreeLine, UseLine, TopLine, ShowLine}
 use Rattle.model.specs.Line.{Item, shape, written}
 use Rattle.model.specs.declared.Fault.{Fault}
 use Rattle.model.specs.declared.Fault.the-variants.{Clear}
@@ -15,8 +14,8 @@ use Rattle.model.specs.Refusals.{unless}
 use Rattle.model.specs.Rules.{phase, within, follows, vcpuFits}
 use Rattle.model.specs.Reading.{fault}
 use Rattle.coded.specs.declared.Seen.{Seen}
-use Rattle.coded.specs.Coded.{fits, ranged, reached, vcpuFault, lockFault, ruled, seenBy, coded}
-use Rattle.model.specs.Line.{size, numsOf}
+use Rattle.coded.specs.Coded.{ranged, reached, vcpuFault, lockFault, ruled, seenBy, coded}
+use Rattle.model.specs.Line.{numsOf}
 
 pub told : {A : Type 0} (f : Kind → A) {k q : Kind} {r : A} → k ≡ q → r ≡ f q → r ≡ f k
 told f e h = rw e h
@@ -55,26 +54,3 @@ pub lock-told :
     h ≡ unless (leb 1 o) Missing g → w ≡ ranged m maxM x maxLength → r ≡ unless w Range h → r ≡ lockFault t m x
 unfolding lockFault
 lock-told t m x a b c d e f g = rw (g, f, e, d, c, b, a)
-
--- the numbers of a line are written as they should be
-pub fits-written : (k : Kind) (a b c d e : ℕ) → fits (size (shape k)) a b c d e ≡ written (shape k) (numsOf k a b c d e)
-unfolding shape written size numsOf
-fits-written PlanLine a b c d e = refl
-fits-written PolicyPO a b c d e = refl
-fits-written PolicyPN a b c d e = refl
-fits-written PolicyDO a b c d e = refl
-fits-written PolicyDN a b c d e = refl
-fits-written VcpuLine a b c d e = simp and-true
-fits-written MutexG a b c d e = refl
-fits-written MutexL a b c d e = refl
-fits-written OpenLine a b c d e = refl
-fits-written GuestLine a b c d e = refl
-fits-written TaskLine a b c d e = refl
-fits-written RunLine a b c d e = refl
-fits-written LockLine a b c d e = refl
-fits-written EndLine a b c d e = refl
-fits-written AskLine a b c d e = refl
-fits-written FreeLine a b c d e = refl
-fits-written UseLine a b c d e = refl
-fits-written TopLine a b c d e = refl
-fits-written ShowLine a b c d e = refl

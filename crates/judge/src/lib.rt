@@ -1,6 +1,5 @@
 // One judge of a plan's items, a kind and its numbers: what is wrong with an item after those before it, and what is seen after it.
 // What it means stands in the crate coded.
-use coded::BAD;
 use coded::ENDED;
 use coded::GLOBAL;
 use coded::GUESTS;
@@ -138,49 +137,6 @@ fn follows(q: u64, kind: Kind) -> bool
         Kind::TopLine => false,
         Kind::ShowLine => false,
     }
-}
-
-// How many numbers a line of this kind has.
-fn size_of(kind: Kind) -> u64
-    ensures { λ r. ⌜ r ≡ line.size (shape kind) ⌝ }
-{
-    match kind {
-        Kind::PlanLine => 0,
-        Kind::PolicyPO => 0,
-        Kind::PolicyPN => 0,
-        Kind::PolicyDO => 0,
-        Kind::PolicyDN => 0,
-        Kind::VcpuLine => 5,
-        Kind::MutexG => 1,
-        Kind::MutexL => 2,
-        Kind::OpenLine => 2,
-        Kind::GuestLine => 1,
-        Kind::TaskLine => 3,
-        Kind::RunLine => 1,
-        Kind::LockLine => 2,
-        Kind::EndLine => 0,
-        Kind::AskLine => 3,
-        Kind::FreeLine => 3,
-        Kind::UseLine => 2,
-        Kind::TopLine => 1,
-        Kind::ShowLine => 2,
-    }
-}
-
-// Are the first n of the numbers written as they should be?
-fn fits(n: u64, a: u64, b: u64, c: u64, d: u64, e: u64) -> bool
-    ensures { λ r. ⌜ r ≡ coded.fits n a b c d e ⌝ }
-{
-    ((n <= 0) | (a < BAD))
-        & (((n <= 1) | (b < BAD))
-            & (((n <= 2) | (c < BAD)) & (((n <= 3) | (d < BAD)) & ((n <= 4) | (e < BAD)))))
-}
-
-// Are the numbers of a line of this kind written as they should be?
-fn written(kind: Kind, a: u64, b: u64, c: u64, d: u64, e: u64) -> bool
-    ensures { λ r. ⌜ r ≡ line.written (shape kind) (numsOf kind a b c d e) ⌝ }
-{
-    fits(size_of(kind), a, b, c, d, e)
 }
 
 // Does the pair (c, d) come after (a, b)?
@@ -357,7 +313,7 @@ pub fn fault_of(t: Seen, kind: Kind, a: u64, b: u64, c: u64, d: u64, e: u64) -> 
     ensures { λ r. ⌜ r ≡ fault coded.coded t (item kind a b c d e) ⌝ }
 {
     let ruled = rule(t, kind, a, b, c, d, e);
-    let fit = written(kind, a, b, c, d, e);
+    let fit = lines::written_of(kind, a, b, c, d, e);
     unless(
         follows(t.phase, kind),
         Refusal::Shape,

@@ -21,7 +21,7 @@ use Rattle.keeps.specs.Faults.{ask-clear, FreeClear, free-clear}
 use Rattle.keeps.specs.Settle.{settledAt}
 use Rattle.keeps.specs.SettleEvents.{settle-grant, settle-wait, settle-local}
 
--- what b′ leaves of b to VCPUs other than v
+-- what b′ leaves of b: all budgets and overruns; marks and waits of VCPUs other than v; mutexes that are not local to v, and who waits for a global one
 pub record Untouched (F : Facts) (v : ℕ) (b b′ : Board) : Type 0 where
   pub left-same : b′ .left ≡ b .left
   pub over-same : b′ .over ≡ b .over
@@ -45,7 +45,8 @@ local-global {F} f v m l k i e z = clash (ap (F .global) z ∙ e) (f .local-only
 pub global-same : {F : Facts} {v : ℕ} {b b′ : Board} → Fair F → Untouched F v b b′ → (k : ℕ) → InM k → F .global k ≡ true → holderOf b′ k ≡ holderOf b k
 global-same {F} {v} f u k i e = u .holder-same k i (λ l. clash e (f .local-only v k l))
 
-untouched : (F : Facts) (v : ℕ) (b : Board) → Untouched F v b b
+-- no event
+pub untouched : (F : Facts) (v : ℕ) (b : Board) → Untouched F v b b
 untouched F v b = record {
   left-same = refl;
   over-same = refl;

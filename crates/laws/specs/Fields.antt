@@ -5,7 +5,6 @@ use mathlib.Core.List.{List, [], _∷_}
 use mathlib.Core.Bool.{cond}
 use lib.Dec.{eqb}
 use lib.ListN.{length, drop}
-use Rattle.laws.specs.Bytes.{same}
 use Rattle.laws.specs.Decimal.{scan}
 
 -- the bytes before the first b, all of them where there is none
@@ -49,14 +48,3 @@ pub record Scanned (bad : ℕ) (s : List ℕ) (v i : ℕ) : Type 0 where
   pub within : i ≤ length s
   pub small : v < 10 ^ i
   pub is : scan bad 0 s ≡ scan bad v (drop i s)
-
--- two lists of one length have the same first i bytes
-pub record Matched (s t : List ℕ) (i : ℕ) : Type 0 where
-  pub within : i ≤ length s
-  pub long : length s ≡ length t
-  pub is : same s t ≡ same (drop i s) (drop i t)
-
--- t is what is left of s after its first i of k fields
-pub record Sought (b k : ℕ) (s t : List ℕ) (i : ℕ) : Type 0 where
-  pub within : i ≤ k
-  pub is : field b k s ≡ field b (k - i) t

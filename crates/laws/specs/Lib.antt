@@ -12,3 +12,5 @@ pub mod Rows
 pub mod RowLaws
 pub mod Fields
 pub mod Steps
+pub mod FirstLaws
+pub mod Once

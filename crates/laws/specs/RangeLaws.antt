@@ -45,9 +45,6 @@ none-of zero f h = refl
 none-of (suc n) f h =
     neither (f (suc n)) (anyTo n f) (h (suc n) (omega arith) (omega arith)) (none-of n f (λ k g l. h k g (omega arith)))
 
-pub any-below : (n m : ℕ) (f : ℕ → Bool) → n ≤ m → anyTo m f ≡ false → anyTo n f ≡ false
-any-below n m f h e = none-of n f (λ k g l. none-at m k f e g (omega arith))
-
 -- EVERY NUMBER PASSES
 
 pub all-none : (f : ℕ → Bool) → allTo 0 f ≡ true
@@ -75,9 +72,6 @@ unfolding allTo
 all-of zero f h = refl
 all-of (suc n) f h =
     both (f (suc n)) (allTo n f) (h (suc n) (omega arith) (omega arith)) (all-of n f (λ k g l. h k g (omega arith)))
-
-pub all-below : (n m : ℕ) (f : ℕ → Bool) → n ≤ m → allTo m f ≡ true → allTo n f ≡ true
-all-below n m f h e = all-of n f (λ k g l. all-at m k f e g (omega arith))
 
 -- THE GREATEST THAT PASSES
 

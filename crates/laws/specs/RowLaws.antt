@@ -70,13 +70,6 @@ module _ {A : Type 0} (f : A → ℕ) (row : ℕ → A) where
   unfolding rows
   greatest-next i = rw (add-one, greatest-append, greatest-one)
 
-  -- no row is above the sum or the greatest
-  pub row-sum : (n i : ℕ) → i < n → f (row i) ≤ sum f (rows n row)
-  row-sum n i h = rw (rows-at n i row (row 0) h) at (sum-at f (rows n row) i (row 0) (rw (rows-length n row) h))
-
-  pub row-greatest : (n i : ℕ) → i < n → f (row i) ≤ greatest f (rows n row)
-  row-greatest n i h = rw (rows-at n i row (row 0) h) at (greatest-at f (rows n row) i (row 0) (rw (rows-length n row) h))
-
 module _ {A : Type 0} {f : A → ℕ} {row : ℕ → A} {b n : ℕ} where
   pub summed-none : Summed f row b n 0 0
   unfolding sum rows
@@ -84,10 +77,6 @@ module _ {A : Type 0} {f : A → ℕ} {row : ℕ → A} {b n : ℕ} where
 
   pub summed-more : {s x i : ℕ} → Summed f row b n s i → i < n → Is x (f (row i)) b → Summed f row b n (s + x) (i + 1)
   summed-more {i} h l e = record { within = omega arith; is = omega (arith, sum-next f row i); small = omega arith }
-
-  -- row i was read into y
-  pub summed-row : {s x i : ℕ} {y : A} → Summed f row b n s i → i < n → Is x (f y) b → y ≡ row i → Summed f row b n (s + x) (i + 1)
-  summed-row h l e k = summed-more h l (record { is = e .is ∙ ap f k; small = e .small })
 
   -- after the last of at most m rows
   pub summed-all : {s i : ℕ} (m : ℕ) → n ≤ m → Summed f row b n s i → n ≤ i → Is s (sum f (rows n row)) (m * b)
@@ -158,13 +147,6 @@ module _ {A : Type 0} {q : A → Bool} {row : ℕ → A} {n : ℕ} where
   pub lacking-out : {b : Bool} {i : ℕ} → Lacking q row n i → i < n → b ≡ q (row i) → b ≡ true → true ≡ any q (rows n row)
   lacking-out {i} h l e k = sym (any-found q row n i l (sym e ∙ k))
 
-  -- row i was read into y
-  pub lacking-row : {b : Bool} {y : A} {i : ℕ} → Lacking q row n i → i < n → b ≡ q y → y ≡ row i → b ≡ false → Lacking q row n (i + 1)
-  lacking-row h l e r k = lacking-more h l (e ∙ ap q r) k
-
-  pub lacking-row-out : {b : Bool} {y : A} {i : ℕ} → Lacking q row n i → i < n → b ≡ q y → y ≡ row i → b ≡ true → true ≡ any q (rows n row)
-  lacking-row-out h l e r k = lacking-out h l (e ∙ ap q r) k
-
   pub lacking-all : {i : ℕ} → Lacking q row n i → n ≤ i → false ≡ any q (rows n row)
   lacking-all h l = rw (le-antisymm l (h .within)) (sym (h .is))
 
@@ -178,13 +160,6 @@ module _ {A : Type 0} {q : A → Bool} {row : ℕ → A} {n : ℕ} where
 
   pub passed-out : {b : Bool} {i : ℕ} → Passed q row n i → i < n → b ≡ q (row i) → not b ≡ true → false ≡ all q (rows n row)
   passed-out {i} h l e k = sym (all-lost q row n i l (sym e ∙ not-true _ k))
-
-  -- row i was read into y
-  pub passed-row : {b : Bool} {y : A} {i : ℕ} → Passed q row n i → i < n → b ≡ q y → y ≡ row i → not b ≡ false → Passed q row n (i + 1)
-  passed-row h l e r k = passed-more h l (e ∙ ap q r) k
-
-  pub passed-row-out : {b : Bool} {y : A} {i : ℕ} → Passed q row n i → i < n → b ≡ q y → y ≡ row i → not b ≡ true → false ≡ all q (rows n row)
-  passed-row-out h l e r k = passed-out h l (e ∙ ap q r) k
 
   pub passed-all : {i : ℕ} → Passed q row n i → n ≤ i → true ≡ all q (rows n row)
   passed-all h l = rw (le-antisymm l (h .within)) (sym (h .is))

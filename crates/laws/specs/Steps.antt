@@ -11,9 +11,9 @@ use lib.Dec.{eqb}
 use lib.ListN.{length, getD, take, drop, drop-of-length-le, length-drop}
 use lib.Seq.{drop-cons, drop-drop, take-all}
 use borrow.Author.Tests.{eq-eqb, ne-eqb, lt-ltb, le-ltb}
-use Rattle.laws.specs.Bytes.{onFirst, pieces, same}
+use Rattle.laws.specs.Bytes.{onFirst, pieces}
 use Rattle.laws.specs.Decimal.{digitOf, scan, starts}
-use Rattle.laws.specs.Fields.{before, after, count, field, fieldsTo, Cut, Tallied, Scanned, Matched, Sought}
+use Rattle.laws.specs.Fields.{before, after, count, field, fieldsTo, Cut, Tallied, Scanned}
 
 -- one more byte of what is left
 pub drop-next : (s : List ℕ) (i : ℕ) → i < length s → drop i s ≡ getD s i 0 ∷ drop (i + 1) s
@@ -62,27 +62,6 @@ module _ (bad : ℕ) (s : List ℕ) (v i : ℕ) where
   pub scan-end : length s ≤ i → scan bad v (drop i s) ≡ v
   unfolding scan
   scan-end h = rw (drop-of-length-le s h)
-
-module _ (s t : List ℕ) (i : ℕ) (hs : i < length s) (ht : i < length t) where
-  pub same-more : getD s i 0 ≡ getD t i 0 → same (drop i s) (drop i t) ≡ same (drop (i + 1) s) (drop (i + 1) t)
-  unfolding same
-  same-more e = rw (drop-next s i hs, drop-next t i ht) (simp (eq-eqb _ _ e))
-
-  pub same-stop : (getD s i 0 ≡ getD t i 0 → ⊥) → same (drop i s) (drop i t) ≡ false
-  unfolding same
-  same-stop e = rw (drop-next s i hs, drop-next t i ht) (simp (ne-eqb _ _ e))
-
-pub same-end : (s t : List ℕ) (i : ℕ) → length s ≤ i → length t ≤ i → same (drop i s) (drop i t) ≡ true
-unfolding same
-same-end s t i hs ht = rw (drop-of-length-le s hs, drop-of-length-le t ht)
-
--- lists of two lengths
-pub same-long : (s t : List ℕ) → (length s ≡ length t → ⊥) → same s t ≡ false
-unfolding same
-same-long [] [] h = absurd (h refl)
-same-long [] (y ∷ t) h = refl
-same-long (x ∷ s) [] h = refl
-same-long (x ∷ s) (y ∷ t) h = ap (λ q. eqb x y && q) (same-long s t (λ e. h (ap suc e))) ∙ and-false (eqb x y)
 
 -- THE LOOPS
 
@@ -137,34 +116,6 @@ module _ {bad : ℕ} {s : List ℕ} where
       let p : 10 ^ suc i ≤ 10 ^ w = pow-le-pow-right (omega arith) (omega arith) in
       omega (arith, pow-suc 10 i)
 
-module _ {s t : List ℕ} where
-  pub matched-none : length s ≡ length t → Matched s t 0
-  matched-none e = record { within = omega arith; long = e; is = refl }
-
-  pub matched-more : {i : ℕ} → Matched s t i → i < length s → getD s i 0 ≡ getD t i 0 → Matched s t (i + 1)
-  matched-more {i} h l e =
-      record { within = omega arith; long = h .long; is = h .is ∙ same-more s t i l (omega arith) e }
-
-  pub matched-stop : {i : ℕ} → Matched s t i → i < length s → (getD s i 0 ≡ getD t i 0 → ⊥) → false ≡ same s t
-  matched-stop {i} h l e = sym (h .is ∙ same-stop s t i l (omega arith) e)
-
-  pub matched-end : {i : ℕ} → Matched s t i → length s ≤ i → true ≡ same s t
-  matched-end {i} h l = sym (h .is ∙ same-end s t i l (omega arith))
-
-module _ {b k : ℕ} {s : List ℕ} where
-  pub sought-none : Sought b k s s 0
-  sought-none = record { within = omega arith; is = rw sub-zero }
-
-  pub sought-more : {t u : List ℕ} {i : ℕ} → Sought b k s t i → i < k → u ≡ after b t → Sought b k s u (i + 1)
-  unfolding field
-  sought-more {t} {u} {i} h l e =
-      let n : k - i ≡ suc (k - (i + 1)) = omega arith in
-      record { within = omega arith; is = h .is ∙ rw (n, e) }
-
-  pub sought-end : {t u : List ℕ} {i : ℕ} → Sought b k s t i → k ≤ i → u ≡ before b t → u ≡ field b k s
-  unfolding field
-  sought-end {t} {u} {i} h l e = let n : k - i ≡ 0 = omega arith in e ∙ sym (h .is ∙ rw n)
-
 -- THE CUT AS A PART OF THE LIST
 
 pub before-le : (b : ℕ) (s : List ℕ) → length (before b s) ≤ length s
@@ -211,12 +162,6 @@ module _ (b : ℕ) (s : List ℕ) (n : ℕ) (e : n ≡ length (before b s)) wher
 
   pub drop-part : drop (n + 1) s ≡ after b s
   drop-part = ap (λ k. drop k s) (add-one n ∙ ap suc e) ∙ drop-before b s
-
-  pub tail-part : take (length s - (n + 1)) (drop (n + 1) s) ≡ after b s
-  tail-part = take-rest (n + 1) s ∙ drop-part
-
-  pub tail-none : length s ≤ n → [] ≡ after b s
-  tail-none h = sym (after-none b s (omega arith))
 
 -- THE PIECES, ONE BY ONE
 

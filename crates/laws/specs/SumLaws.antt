@@ -80,6 +80,11 @@ unfolding sum
 sum-rises-on f g [] h = omega arith
 sum-rises-on f g (x ∷ xs) h = add-le-add (h .0) (sum-rises-on f g xs (h .1))
 
+pub sum-both : {A : Type 0} (f g : A → ℕ) (xs : List A) → sum (λ x. f x + g x) xs ≡ sum f xs + sum g xs
+unfolding sum
+sum-both f g [] = refl
+sum-both f g (x ∷ xs) = omega (arith, sum-both f g xs)
+
 pub sum-same : {A : Type 0} (xs : List A) {f g : A → ℕ} → ((x : A) → f x ≡ g x) → sum f xs ≡ sum g xs
 unfolding sum
 sum-same [] h = refl
@@ -246,12 +251,6 @@ module _ {A : Type 0} (xs : List A) (p c e : A → ℕ) (on : A → A → Bool) 
 
 -- CAPS
 
-pub cap-add-left : (a b c : ℕ) → min (min a c + b) c ≡ min (a + b) c
-cap-add-left a b c = omega arith
-
-pub cap-add-right : (a b c : ℕ) → min (a + min b c) c ≡ min (a + b) c
-cap-add-right a b c = omega arith
-
 pub cap-mul-left : (a b c : ℕ) → min (min a c * b) c ≡ min (a * b) c
 cap-mul-left a zero c = simp mul-zero
 cap-mul-left a (suc b) c =
@@ -259,6 +258,3 @@ cap-mul-left a (suc b) c =
 
 pub cap-mul-right : (a b c : ℕ) → min (a * min b c) c ≡ min (a * b) c
 cap-mul-right a b c = rw (mul-comm a (min b c), cap-mul-left b a c, mul-comm b a)
-
--- a cap within a capped sum or product goes: `simp caps`
-pub ruleset caps = (cap-add-left, cap-add-right, cap-mul-left, cap-mul-right)

@@ -154,41 +154,5 @@ item-said l = go (kindIn kinds (pieces tab l))
     go Nothing = refl
     go (Is k) = refl
 
-module _ (l : List ℕ) (k : Kind) (h : saidOf l .found ≡ Is k) where
-  -- the numbers of a line that has a kind
-  pub said-nums : numbers (shape k) (pieces tab l) ≡ numsOf k (saidOf l .a) (saidOf l .b) (saidOf l .c) (saidOf l .d) (saidOf l .e)
-  unfolding saidOf
-  said-nums = rw h (numbers-nums l k h)
-
-  pub said-is : itemOf l ≡ some (record { kind = k; nums = numsOf k (saidOf l .a) (saidOf l .b) (saidOf l .c) (saidOf l .d) (saidOf l .e) })
-  said-is = said-item l ∙ ap (λ f. itemAs f (saidOf l .a) (saidOf l .b) (saidOf l .c) (saidOf l .d) (saidOf l .e)) h
-
-pub said-none : (l : List ℕ) → saidOf l .found ≡ Nothing → itemOf l ≡ none
-said-none l h = said-item l ∙ ap (λ f. itemAs f (saidOf l .a) (saidOf l .b) (saidOf l .c) (saidOf l .d) (saidOf l .e)) h
-
 pub item-is : (l : List ℕ) (i : Item) → itemOf l ≡ some i → saidOf l ≡ saidAs (Is (i .kind)) (i .nums)
 item-is l i h = item-said l ∙ ap itemSaid h
-
-pub item-none : (l : List ℕ) → itemOf l ≡ none → saidOf l ≡ saidAs Nothing []
-item-none l h = item-said l ∙ ap itemSaid h
-
--- a number that is said is at most the one for a field that is not written as it should be
-pub record SaidSmall (s : Said) : Type 0 where
-  pub a : s .a ≤ bad
-  pub b : s .b ≤ bad
-  pub c : s .c ≤ bad
-  pub d : s .d ≤ bad
-  pub e : s .e ≤ bad
-
-when-small : (t : Bool) (s : List ℕ) → when t (value maxDigits s) ≤ bad
-unfolding when
-when-small true s = value-small maxDigits s
-when-small false s = omega arith
-
-by-small : (c n : ℕ) (f : Found) (x y z p q : List ℕ) → SaidSmall (saidBy c n f x y z p q)
-unfolding saidBy
-by-small c n f x y z p q =
-    record { a = when-small _ x; b = when-small _ _; c = when-small _ z; d = when-small _ p; e = when-small _ q }
-
-pub said-small : (l : List ℕ) → SaidSmall (saidOf l)
-said-small l = rw (said-code l) (by-small _ _ _ _ _ _ _ _)

@@ -107,7 +107,7 @@ fn starts_well(s: &[u8]) -> bool
 }
 
 // The number that a field says; 10,000,000 for one that is not written as it should be.
-pub fn number(s: &[u8]) -> u64
+fn number(s: &[u8]) -> u64
     ensures { λ r. ⌜ r ≡ value maxDigits (now (s .entry)) ⌝ }
 {
     if s.len() <= 7 {
@@ -146,7 +146,7 @@ fn past(s: &[u8], n: usize) -> &[u8]
 }
 
 // What stands before the first `b`.
-pub fn head(s: &[u8], b: u8) -> &[u8]
+fn head(s: &[u8], b: u8) -> &[u8]
     ensures { λ r. ⌜ now r ≡ before b (now (s .entry)) ⌝ }
 {
     let n = cut(s, b);
@@ -154,7 +154,7 @@ pub fn head(s: &[u8], b: u8) -> &[u8]
 }
 
 // What stands after the first `b`.
-pub fn tail(s: &[u8], b: u8) -> &[u8]
+fn tail(s: &[u8], b: u8) -> &[u8]
     ensures { λ r. ⌜ now r ≡ after b (now (s .entry)) ⌝ }
 {
     let n = cut(s, b);
@@ -162,7 +162,7 @@ pub fn tail(s: &[u8], b: u8) -> &[u8]
 }
 
 // How many bytes of `s` are `b`.
-pub fn tally(s: &[u8], b: u8) -> usize
+fn tally(s: &[u8], b: u8) -> usize
     ensures { λ r. ⌜ r ≡ count b (now (s .entry)) ⌝ }
 {
     let mut n = 0;
@@ -174,37 +174,6 @@ pub fn tally(s: &[u8], b: u8) -> usize
         i += 1;
     }
     n
-}
-
-// The k-th field of a line.
-pub fn nth(s: &[u8], k: usize) -> &[u8]
-    ensures { λ r. ⌜ now r ≡ field tab k (now (s .entry)) ⌝ }
-{
-    let mut t = s;
-    let mut i = 0;
-    while i < k {
-        let u = tail(t, TAB);
-        t = u;
-        i += 1;
-    }
-    head(t, TAB)
-}
-
-// Do `s` and `t` hold the same bytes?
-pub fn same(s: &[u8], t: &[u8]) -> bool
-    ensures { λ r. ⌜ r ≡ bytes.same (now (s .entry)) (now (t .entry)) ⌝ }
-{
-    if s.len() != t.len() {
-        return false;
-    }
-    let mut i = 0;
-    while i < s.len() {
-        if s[i] != t[i] {
-            return false;
-        }
-        i += 1;
-    }
-    true
 }
 
 // The bytes of a short word as one number, told apart by its length.
@@ -416,13 +385,6 @@ pub fn said_of(line: &[u8]) -> Said
     let w = upto(line, n);
     let t = past(line, n);
     said_after(tally(line, TAB), w, t)
-}
-
-// The kind of a line.
-pub fn kind_of(line: &[u8]) -> Found
-    ensures { λ r. ⌜ r ≡ kindIn kinds (pieces tab (now (line .entry))) ⌝ }
-{
-    kind_at(tally(line, TAB), nth(line, 0), nth(line, 1), nth(line, 2))
 }
 
 // Are the numbers of a line of this kind written as they should be?

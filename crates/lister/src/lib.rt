@@ -288,7 +288,7 @@ fn fill_answers(
     let mut tf = [0u64; 320];
     let mut vf = [0u64; 48];
     let mut rf = [0u64; 512];
-    let mut rows = [0u64; 1800];
+    let mut rows = [0u64; 240];
     let mut ws = [0u64; 64];
     let mut fs = [0u64; 64];
     stored::stored(r, vt, mt, ts, &mut tf, &mut vf, &mut rf);

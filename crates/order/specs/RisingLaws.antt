@@ -12,7 +12,7 @@ use lib.ListN.{length, length-append}
 use Rattle.laws.specs.BoolLaws.{both, miss-right}
 use Rattle.laws.specs.Choice.{when}
 use Rattle.laws.specs.Sums.{sum, flat, Each}
-use Rattle.laws.specs.SumLaws.{sum-append, sum-same, sum-rises, sum-only, when-le}
+use Rattle.laws.specs.SumLaws.{sum-append, sum-both, sum-same, sum-rises, sum-only, when-le}
 use Rattle.laws.specs.Range.{flatTo}
 use Rattle.model.specs.Limits.{maxV, maxN}
 use Rattle.model.specs.Plan.{Task}
@@ -31,11 +31,6 @@ pub length-flat : {A B : Type 0} (f : A → List B) (xs : List A) → length (fl
 unfolding flat sum
 length-flat f [] = refl
 length-flat f (x ∷ xs) = length-append (f x) (flat f xs) ∙ ap (λ n. length (f x) + n) (length-flat f xs)
-
-sum-both : {A : Type 0} (f g : A → ℕ) (xs : List A) → sum (λ x. f x + g x) xs ≡ sum f xs + sum g xs
-unfolding sum
-sum-both f g [] = refl
-sum-both f g (x ∷ xs) = omega (arith, sum-both f g xs)
 
 sum-none : {A : Type 0} (f : A → ℕ) (xs : List A) → ((x : A) → f x ≡ 0) → sum f xs ≡ 0
 unfolding sum

@@ -188,10 +188,3 @@ module _ (s : List ℕ) (t : Tables) where
   -- and so passes the test for 9
   pub accepted-given : (r : PlanRecord) → planAnswer s t ≡ Accepted r → isGiven r (tablesAfter s t) ≡ true
   accepted-given r h = let w = accepted-gives r h in given-exactly r (tablesAfter s t) .1 (w .0, w .2, w .3)
-
--- any two answers, and any two tables left, that the contract of `read_plan` allows are the same
-pub answer-once : (s : List ℕ) (t : Tables) (a b : PlanAnswer) → a ≡ planAnswer s t → b ≡ planAnswer s t → a ≡ b
-answer-once s t a b p q = cc
-
-pub tables-once : (s : List ℕ) (t u w : Tables) → u ≡ tablesAfter s t → w ≡ tablesAfter s t → u ≡ w
-tables-once s t u w p q = cc

@@ -46,6 +46,11 @@ share-capped t r {u} {q} h s e f =
     let m : u * q ≤ 1_000_001_000_000 * cap = mul-le-mul {n₂ = 1_000_001_000_000} {m₂ = cap} k (omega arith) in
     record { is = rw (e, f) (cap-mul-right (up (t + r .shift) (r .period)) (r .cost) cap); small = omega arith }
 
+-- that of a row that costs nothing
+pub share-free : (t : ℕ) (r : Row) → r .cost ≡ 0 → IsUpTo cap 0 (share t r) (2 ^ 60)
+unfolding share
+share-free t r e = let z : 0 ≡ up (t + r .shift) (r .period) * r .cost = rw (e) (omega arith) in record { is = ap (λ x. min x cap) z; small = omega arith }
+
 -- A ROW PUSHED
 
 module _ (xs : List ℕ) (n : ℕ) (r : Row) where

@@ -22,22 +22,8 @@ pub fn capped(a: u64) -> u64
     if a < CAP { a } else { CAP }
 }
 
-// a + b, or the cap; no sum wraps.
-pub fn add_capped(a: u64, b: u64) -> u64
-    ensures { λ r. ⌜ r ≡ min (a + b) cap ⌝ }
-{
-    capped(capped(a) + capped(b))
-}
-
-// a * b, or the cap; no product wraps.
-pub fn mul_capped(a: u64, b: u64) -> u64
-    ensures { λ r. ⌜ r ≡ min (a * b) cap ⌝ }
-{
-    capped(capped(a) * capped(b))
-}
-
 // a / b, rounded up.
-pub fn div_up(a: u64, b: u64) -> u64
+fn div_up(a: u64, b: u64) -> u64
     requires { ⌜ 1 ≤ b ⌝ }
     ensures { λ r. ⌜ r ≡ up a b ⌝ }
 {
@@ -55,17 +41,21 @@ pub fn push_row(rows: &mut [u64], n: usize, shift: u64, period: u64, cost: u64)
     rows[at + 2] = cost;
 }
 
-// What row k asks for in a window t, or a number above every limit where that is.
+// What row k asks for in a window t, or a number above every limit where that is. A row that costs nothing is not divided.
 fn share_of(rows: &[u64], k: usize, t: u64) -> u64
     requires { ⌜ (k * 3 + 3 ≤ length (now rows)) × (t < cap) × Sound (rowIn (now rows) k) ⌝ }
     ensures { λ r. ⌜ IsUpTo cap r (share t (rowIn (now (rows .entry)) k)) (2 ^ 60) ⌝ }
 {
     let at = k * 3;
-    div_up(t + rows[at], rows[at + 1]) * capped(rows[at + 2])
+    let cost = rows[at + 2];
+    if cost == 0 {
+        return 0;
+    }
+    div_up(t + rows[at], rows[at + 1]) * capped(cost)
 }
 
 // The demand of n rows over a base, capped: once it reaches the cap, no later row is looked at.
-pub fn demand(base: u64, rows: &[u64], n: usize, t: u64) -> u64
+fn demand(base: u64, rows: &[u64], n: usize, t: u64) -> u64
     requires { ⌜ (n * 3 ≤ length (now rows)) × (t < cap) × Each Sound (rowsIn (now rows) n) ⌝ }
     ensures { λ r. ⌜ r ≡ min (rowsDemand base (rowsIn (now (rows .entry)) n) t) cap ⌝ }
 {

@@ -1,18 +1,13 @@
--- Laws of loops that store figures: before the first, one more, another column; the first row that passes; the response in its parts.
+-- Laws of loops that store figures: before the first, one more, another column; the response in its parts.
 use Prim.Native.Nat.{ℕ, _+_, _*_, _/_, _%_, _≤_, _<_}
 use mathlib.Core.Path.{_≡_, refl, ap, ap₂, sym, _∙_}
-use mathlib.Core.Bool.{Bool, true, false, _||_}
-use mathlib.Core.List.{List, [], _∷_, _++_}
-use native.Mathlib.Decide.{le-ind}
+use mathlib.Core.List.{List}
 use native.Mathlib.Omega.{arith}
 use borrow.Author.Count.{below-more}
 use lib.ListN.{length, getD, set, length-set}
 use lib.Seq.{getD-set-same, getD-set-other}
-use Rattle.laws.specs.BoolLaws.{neither-left, neither-right}
-use Rattle.laws.specs.Sums.{any, first, up}
-use Rattle.laws.specs.SumLaws.{first-in, first-out}
-use Rattle.laws.specs.Rows.{rows, Is, Lacking}
-use Rattle.laws.specs.RowLaws.{any-found}
+use Rattle.laws.specs.Sums.{up}
+use Rattle.laws.specs.Rows.{Is}
 use Rattle.model.specs.declared.Policy.{Policy}
 use Rattle.model.specs.declared.Policy.the-variants.{Periodic, Deferrable}
 use Rattle.model.specs.declared.OverrunChoice.{OverrunChoice}
@@ -132,35 +127,6 @@ response-at s t i j h l m =
     let g : (i * 8 + j) % 8 ≡ j = omega arith in
     let k = h .at (i * 8 + j) (omega arith) in
     record { is = k .is ∙ ap₂ (sectionResponse s t) e g; small = k .small }
-
--- THE FIRST ROW THAT PASSES
-module _ {A : Type 0} (q : A → Bool) (d : A) where
-  first-after : (xs ys : List A) → any q xs ≡ false → first q d (xs ++ ys) ≡ first q d ys
-  unfolding any
-  first-after [] ys h = refl
-  first-after (x ∷ xs) ys h =
-      first-out q d x (xs ++ ys) (neither-left (q x) (any q xs) h) ∙ first-after xs ys (neither-right (q x) (any q xs) h)
-
-  first-before : (xs ys : List A) → any q xs ≡ true → first q d (xs ++ ys) ≡ first q d xs
-  unfolding any
-  first-before [] ys h = absurd (let z : _≡_ {A = ℕ} 0 1 = cc in omega arith)
-  first-before (x ∷ xs) ys h = go (q x) refl h (first-before xs ys)
-    where
-      go :
-          (t : Bool) → q x ≡ t → (t || any q xs) ≡ true → (any q xs ≡ true → first q d (xs ++ ys) ≡ first q d xs) →
-          first q d (x ∷ (xs ++ ys)) ≡ first q d (x ∷ xs)
-      go true e h ih = first-in q d x (xs ++ ys) e ∙ sym (first-in q d x xs e)
-      go false e h ih = first-out q d x (xs ++ ys) e ∙ ih h ∙ sym (first-out q d x xs e)
-
-  -- no row before row i passes, and it does
-  pub first-row : (row : ℕ → A) (n i : ℕ) → Lacking q row n i → i < n → q (row i) ≡ true → first q d (rows n row) ≡ row i
-  unfolding rows
-  first-row row n i h l e =
-      le-ind (λ m. first q d (rows m row) ≡ row i)
-      (first-after (rows i row) (row i ∷ []) (h .is) ∙ first-in q d (row i) [] e)
-      (λ m k t. first-before (rows m row) (row m ∷ []) (any-found q row m i k e) ∙ t)
-      n
-      l
 
 -- EQUATIONS 14 TO 16
 pub response-for :

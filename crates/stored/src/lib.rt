@@ -290,7 +290,7 @@ fn higher_sum(r: PlanRecord, vt: &[u64], mt: &[u64], ts: &[u64], tf: &[u64], i: 
 }
 
 // t / p, rounded up.
-pub fn up_by(t: u64, p: u64) -> u64
+fn up_by(t: u64, p: u64) -> u64
     requires { ⌜ (0 < p) × (t + p < 2 ^ 64) ⌝ }
     ensures { λ x. ⌜ Is x (up t p) t ⌝ }
 {

@@ -109,7 +109,7 @@ fn higher_rows(
     gap: u64,
     i: usize,
 ) -> usize
-    requires { ⌜ Fit r (now vt) (now mt) (now ts) × TasksIn r (now vt) (now mt) (now ts) (now tf) × WaitsIn r (now vt) (now mt) (now ts) (now ws) (now fs) × (gap ≤ 1000000) × (i < r .tasks) × (1800 ≤ length (now rows)) ⌝ }
+    requires { ⌜ Fit r (now vt) (now mt) (now ts) × TasksIn r (now vt) (now mt) (now ts) (now tf) × WaitsIn r (now vt) (now mt) (now ts) (now ws) (now fs) × (gap ≤ 1000000) × (i < r .tasks) × (240 ≤ length (now rows)) ⌝ }
     ensures { λ n. ⌜ (n ≤ 64) × (rowsIn (now (rows .exit)) n ≡ map (preemptRow (systemIn r (now (vt .entry)) (now (mt .entry)) (now (ts .entry))) gap) (only (higherTask (taskRow (now (ts .entry)) i)) (rowsOf (r .tasks) (taskRow (now (ts .entry)))))) ⌝ }
 {
     let count = r.tasks;
@@ -139,7 +139,7 @@ fn task_rows(
     rows: &mut [u64],
     i: usize,
 ) -> usize
-    requires { ⌜ Fit r (now vt) (now mt) (now ts) × TasksIn r (now vt) (now mt) (now ts) (now tf) × WaitsIn r (now vt) (now mt) (now ts) (now ws) (now fs) × (i < r .tasks) × (1800 ≤ length (now rows)) ⌝ }
+    requires { ⌜ Fit r (now vt) (now mt) (now ts) × TasksIn r (now vt) (now mt) (now ts) (now tf) × WaitsIn r (now vt) (now mt) (now ts) (now ws) (now fs) × (i < r .tasks) × (240 ≤ length (now rows)) ⌝ }
     ensures { λ n. ⌜ (n ≤ 65) × (rowsIn (now (rows .exit)) n ≡ taskRows (systemIn r (now (vt .entry)) (now (mt .entry)) (now (ts .entry))) (taskRow (now (ts .entry)) i) (vcpuAt (systemIn r (now (vt .entry)) (now (mt .entry)) (now (ts .entry))) (taskRow (now (ts .entry)) i .v))) × Each Sound (rowsIn (now (rows .exit)) n) ⌝ }
 {
     let a = stored::vcpu_of(r, vt, mt, ts, figures::task_cell(r, vt, mt, ts, i, 0));
@@ -180,7 +180,7 @@ fn task_search(
     rows: &mut [u64],
     i: usize,
 ) -> Answer
-    requires { ⌜ Fit r (now vt) (now mt) (now ts) × TasksIn r (now vt) (now mt) (now ts) (now tf) × BlockingsIn r (now vt) (now mt) (now ts) (now tf) × WaitsIn r (now vt) (now mt) (now ts) (now ws) (now fs) × (i < r .tasks) × (1800 ≤ length (now rows)) ⌝ }
+    requires { ⌜ Fit r (now vt) (now mt) (now ts) × TasksIn r (now vt) (now mt) (now ts) (now tf) × BlockingsIn r (now vt) (now mt) (now ts) (now tf) × WaitsIn r (now vt) (now mt) (now ts) (now ws) (now fs) × (i < r .tasks) × (240 ≤ length (now rows)) ⌝ }
     ensures { λ x. ⌜ x ≡ solve (taskDemand (systemIn r (now (vt .entry)) (now (mt .entry)) (now (ts .entry))) (remoteWaits (systemIn r (now (vt .entry)) (now (mt .entry)) (now (ts .entry)))) (taskRow (now (ts .entry)) i)) (lengths (taskRow (now (ts .entry)) i)) (taskRow (now (ts .entry)) i .period) ⌝ }
 {
     let base = task_base(r, vt, mt, ts, tf, ws, fs, i);
@@ -201,7 +201,7 @@ pub fn task_answer(
     rows: &mut [u64],
     i: usize,
 ) -> TaskAnswer
-    requires { ⌜ Fit r (now vt) (now mt) (now ts) × TasksIn r (now vt) (now mt) (now ts) (now tf) × BlockingsIn r (now vt) (now mt) (now ts) (now tf) × WaitsIn r (now vt) (now mt) (now ts) (now ws) (now fs) × (i < r .tasks) × (1800 ≤ length (now rows)) ⌝ }
+    requires { ⌜ Fit r (now vt) (now mt) (now ts) × TasksIn r (now vt) (now mt) (now ts) (now tf) × BlockingsIn r (now vt) (now mt) (now ts) (now tf) × WaitsIn r (now vt) (now mt) (now ts) (now ws) (now fs) × (i < r .tasks) × (240 ≤ length (now rows)) ⌝ }
     ensures { λ x. ⌜ x ≡ taskAnswer (systemIn r (now (vt .entry)) (now (mt .entry)) (now (ts .entry))) (taskRow (now (ts .entry)) i) ⌝ }
 {
     if lacks(r, vt, mt, ts, ws, fs, i) {

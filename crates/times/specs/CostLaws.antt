@@ -10,7 +10,7 @@ use borrow.Author.Tests.{lt-ltb, le-ltb}
 use lib.Dec.{eqb, ltb}
 use Rattle.laws.specs.Choice.{when}
 use Rattle.laws.specs.Sums.{up, sum, only, Each}
-use Rattle.laws.specs.SumLaws.{sum-same, each-append}
+use Rattle.laws.specs.SumLaws.{sum-both, sum-same, each-append}
 use Rattle.laws.specs.Rows.{rows, Is}
 use Rattle.laws.specs.RowLaws.{each-rows}
 use Rattle.search.specs.Search.{solve}
@@ -36,11 +36,6 @@ pub sum-nil : {A : Type 0} (xs : List A) → sum (λ x. 0) xs ≡ 0
 unfolding sum
 sum-nil [] = refl
 sum-nil (x ∷ xs) = omega (arith, sum-nil xs)
-
-pub sum-both : {A : Type 0} (f g : A → ℕ) (xs : List A) → sum (λ x. f x + g x) xs ≡ sum f xs + sum g xs
-unfolding sum
-sum-both f g [] = refl
-sum-both f g (x ∷ xs) = omega (arith, sum-both f g xs)
 
 pub sum-times : {A : Type 0} (c : ℕ) (f : A → ℕ) (xs : List A) → sum (λ x. c * f x) xs ≡ c * sum f xs
 unfolding sum

@@ -195,7 +195,7 @@ fn task_rows(
     d: bool,
     a: usize,
 ) -> usize
-    requires { ⌜ Fit r (now vt) (now mt) (now ts) × TasksIn r (now vt) (now mt) (now ts) (now tf) × (a < r .vcpus) × (1800 ≤ length (now rows)) ⌝ }
+    requires { ⌜ Fit r (now vt) (now mt) (now ts) × TasksIn r (now vt) (now mt) (now ts) (now tf) × (a < r .vcpus) × (240 ≤ length (now rows)) ⌝ }
     ensures { λ n. ⌜ (n ≤ 64) × (rowsIn (now (rows .exit)) n ≡ costRows (blockingCost d (systemIn r (now (vt .entry)) (now (mt .entry)) (now (ts .entry))) (vcpuRow (now (vt .entry)) a)) (rowsOf (r .tasks) (taskRow (now (ts .entry))))) ⌝ }
 {
     let count = r.tasks;
@@ -254,7 +254,7 @@ fn vcpu_rows(
     a: usize,
     n: usize,
 ) -> usize
-    requires { ⌜ Fit r (now vt) (now mt) (now ts) × VcpusIn r (now vt) (now mt) (now ts) (now vf) × (d ≡ isDeferrable (r .policy)) × (a < r .vcpus) × (n ≤ 64) × (1800 ≤ length (now rows)) ⌝ }
+    requires { ⌜ Fit r (now vt) (now mt) (now ts) × VcpusIn r (now vt) (now mt) (now ts) (now vf) × (d ≡ isDeferrable (r .policy)) × (a < r .vcpus) × (n ≤ 64) × (240 ≤ length (now rows)) ⌝ }
     ensures { λ e. ⌜ (e ≤ 80) × (rowsIn (now (rows .exit)) e ≡ rowsIn (now (rows .entry)) n ++ map (higherRow (systemIn r (now (vt .entry)) (now (mt .entry)) (now (ts .entry)))) (only (higherOn (vcpuRow (now (vt .entry)) a)) (rowsOf (r .vcpus) (vcpuRow (now (vt .entry)))))) ⌝ }
 {
     let count = r.vcpus;
@@ -283,7 +283,7 @@ pub fn vcpu_answer(
     rows: &mut [u64],
     a: usize,
 ) -> Answer
-    requires { ⌜ Fit r (now vt) (now mt) (now ts) × TasksIn r (now vt) (now mt) (now ts) (now tf) × VcpusIn r (now vt) (now mt) (now ts) (now vf) × (a < r .vcpus) × (1800 ≤ length (now rows)) ⌝ }
+    requires { ⌜ Fit r (now vt) (now mt) (now ts) × TasksIn r (now vt) (now mt) (now ts) (now tf) × VcpusIn r (now vt) (now mt) (now ts) (now vf) × (a < r .vcpus) × (240 ≤ length (now rows)) ⌝ }
     ensures { λ x. ⌜ x ≡ vcpuAnswer (systemIn r (now (vt .entry)) (now (mt .entry)) (now (ts .entry))) (vcpuRow (now (vt .entry)) a) ⌝ }
 {
     let p = r.policy;
@@ -438,7 +438,7 @@ fn wait_rows(
     v: u64,
     m: u64,
 ) -> usize
-    requires { ⌜ Fit r (now vt) (now mt) (now ts) × ResponsesIn r (now vt) (now mt) (now ts) (now rf) × (512 ≤ length (now rf)) × (global (systemIn r (now vt) (now mt) (now ts) .mutexes) m ≡ true) × (1800 ≤ length (now rows)) ⌝ }
+    requires { ⌜ Fit r (now vt) (now mt) (now ts) × ResponsesIn r (now vt) (now mt) (now ts) (now rf) × (512 ≤ length (now rf)) × (global (systemIn r (now vt) (now mt) (now ts) .mutexes) m ≡ true) × (240 ≤ length (now rows)) ⌝ }
     ensures { λ n. ⌜ (n ≤ 64) × (rowsIn (now (rows .exit)) n ≡ costRows (waitCost (systemIn r (now (vt .entry)) (now (mt .entry)) (now (ts .entry))) v m) (rowsOf (r .tasks) (taskRow (now (ts .entry))))) ⌝ }
 {
     let count = r.tasks;
@@ -469,7 +469,7 @@ pub fn wait_answer(
     m: u64,
     limit: u64,
 ) -> Answer
-    requires { ⌜ Fit r (now vt) (now mt) (now ts) × ResponsesIn r (now vt) (now mt) (now ts) (now rf) × (512 ≤ length (now rf)) × (global (systemIn r (now vt) (now mt) (now ts) .mutexes) m ≡ true) × (1800 ≤ length (now rows)) × (limit ≤ 1000000) ⌝ }
+    requires { ⌜ Fit r (now vt) (now mt) (now ts) × ResponsesIn r (now vt) (now mt) (now ts) (now rf) × (512 ≤ length (now rf)) × (global (systemIn r (now vt) (now mt) (now ts) .mutexes) m ≡ true) × (240 ≤ length (now rows)) × (limit ≤ 1000000) ⌝ }
     ensures { λ x. ⌜ x ≡ solve (waitDemand (systemIn r (now (vt .entry)) (now (mt .entry)) (now (ts .entry))) v m) (waitStart (systemIn r (now (vt .entry)) (now (mt .entry)) (now (ts .entry))) v m) limit ⌝ }
 {
     let start = wait_start(r, vt, mt, ts, rf, v, m);

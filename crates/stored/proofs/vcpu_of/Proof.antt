@@ -5,7 +5,7 @@ use Rattle.figures.specs.Tabled.{systemIn}
 use Rattle.laws.specs.RowLaws.{lacking-all, lacking-more, lacking-none}
 use Rattle.laws.specs.Rows.{Lacking}
 use Rattle.model.specs.Lookup.{hasVcpu}
-use Rattle.stored.specs.StoredLaws.{first-row}
+use Rattle.laws.specs.FirstLaws.{first-row}
 use Rattle.tables.specs.Layout.{vcpuRow}
 use borrow.Author.Needs.{needs}
 use borrow.Author.Tests.{eq-eqb, ne-eqb}

@@ -1,0 +1,70 @@
+-- Event after event over lent tables: the last board, the ledger and locality, said of the calls `fresh` and `step`.
+use Prim.Native.Nat.{ℕ, _+_}
+use mathlib.Core.Path.{_≡_, refl, sym, subst, _∙_}
+use mathlib.Core.Bool.{true, false}
+use mathlib.Core.List.{List, [], _∷_}
+use mathlib.Core.Logic.{⊎-elim}
+use Rattle.tables.specs.declared.PlanRecord.{PlanRecord}
+use Rattle.tables.specs.Layout.{Tables}
+use Rattle.tables.specs.Given.{isGiven}
+use Rattle.lockboard.specs.Facts.{Facts}
+use Rattle.lockboard.specs.declared.Board.{Board}
+use Rattle.lockboard.specs.declared.Event.{Event}
+use Rattle.lockboard.specs.declared.Event.the-variants.{Ask, Free}
+use Rattle.lockboard.specs.declared.Outcome.{Outcome}
+use Rattle.lockboard.specs.Board.{leftOf, overOf, step, good}
+use Rattle.lockboard.specs.Events.{answers, boardAfter}
+use Rattle.keeps.specs.Cases.{bool-cases}
+use Rattle.keeps.specs.Shaped.{Shaped}
+use Rattle.keeps.specs.Ledger.{ledger}
+use Rattle.keeps.specs.LedgerLaws.{ledger-balance}
+use Rattle.keeps.specs.Locality.{Untouched, untouched, ask-local, free-local}
+use Rattle.keeps.specs.Tested.{boardOn, fresh-board-on}
+use Rattle.boards.specs.Entered.{Made, factsFrom, freshFor, stepFor}
+use Rattle.boards.specs.EnteredLaws.{runFor, step-other, step-given, fair-from, fresh-of, tested-good, tested-other, run-answers}
+
+module _ (r : PlanRecord) (t : Tables) where
+  abbrev F : Facts
+  F = factsFrom r t
+
+  -- the board after events, each a call of `step`
+  unfoldable pub lastFor : Board → List Event → Board
+  lastFor b [] = b
+  lastFor b (e ∷ es) = lastFor (stepFor r t b e .board) es
+
+  last-on : isGiven r t ≡ true → (b : Board) (es : List Event) → lastFor b es ≡ boardOn F b es
+  unfolding lastFor boardOn
+  last-on g b [] = refl
+  last-on g b (e ∷ es) = rw (step-given r t g b e) (last-on g _ es)
+
+  -- EVENT AFTER EVENT: the last board is that of the board's own rules
+  pub run-last : freshFor r t .answer ≡ Made → (es : List Event) → lastFor (freshFor r t .board) es ≡ boardAfter F (freshFor r t .board) es
+  run-last e es = let h = fresh-of r t e in last-on (h .0) (freshFor r t .board) es ∙ rw (h .1) (fresh-board-on (fair-from r t (h .0)) es)
+
+  -- "the ticks accepted for a VCPU since its last `top` (or the start), added up from the events, equal budget + O − b − o"
+  pub run-ledger : freshFor r t .answer ≡ Made → (v : ℕ) → F .hasVcpu v ≡ true → (es : List Event) →
+      ledger v 0 es (runFor r t (freshFor r t .board) es) + leftOf (lastFor (freshFor r t .board) es) v + overOf (lastFor (freshFor r t .board) es) v
+      ≡ F .budget v + F .overrun v
+  run-ledger e v k es =
+      let h = fresh-of r t e in
+      rw (run-answers r t e es, run-last e es, h .1) (ledger-balance (fair-from r t (h .0)) v k es)
+
+  -- a call either leaves the board, or is an event on given tables and a board that meets the conditions
+  pub step-cases : {b : Board} (e : Event) (P : Board → Type 0) → P b → (isGiven r t ≡ true → good F b ≡ true → P (step F b e .board)) →
+      P (stepFor r t b e .board)
+  step-cases {b} e P p q =
+      ⊎-elim
+      (λ g.
+      ⊎-elim (λ h. subst (λ (o : Outcome). P (o .board)) (sym (step-given r t g b e ∙ tested-good F b e h)) (q g h))
+      (λ h. subst (λ (o : Outcome). P (o .board)) (sym (step-given r t g b e ∙ tested-other F b e h)) p)
+      (bool-cases (good F b)))
+      (λ g. subst (λ (o : Outcome). P (o .board)) (sym (step-other r t g b e)) p)
+      (bool-cases (isGiven r t))
+
+  -- "An event on one VCPU's local mutexes changes no other VCPU's record and no global mutex" (a board's lists have the lengths of its arrays)
+  module _ {b : Board} (s : Shaped b) (v n m : ℕ) (loc : F .localTo v m ≡ true) where
+    pub call-ask-local : Untouched F v b (stepFor r t b (Ask v n m) .board)
+    call-ask-local = step-cases (Ask v n m) (Untouched F v b) (untouched F v b) (λ g h. ask-local (fair-from r t g) s h v n m loc)
+
+    pub call-free-local : Untouched F v b (stepFor r t b (Free v n m) .board)
+    call-free-local = step-cases (Free v n m) (Untouched F v b) (untouched F v b) (λ g h. free-local (fair-from r t g) s h v n m loc)

@@ -1,0 +1,131 @@
+-- "That any two results allowed by one statement coincide is proved": for each public function, two results of a call, with all that two calls leave of what was lent, that its contract allows are the same.
+-- Each contract is an equation with a definition, so that one law serves all: `once`.
+use Prim.Native.Nat.{ℕ}
+use mathlib.Core.Path.{_≡_}
+use mathlib.Core.Bool.{Bool}
+use mathlib.Core.List.{List}
+use lib.IntN.{ℤ}
+use Rattle.laws.specs.Once.{once}
+use Rattle.tables.specs.declared.PlanRecord.{PlanRecord}
+use Rattle.tables.specs.Layout.{Tables}
+use Rattle.tables.specs.Given.{isGiven}
+use Rattle.reader.specs.Into.{PlanAnswer, planAnswer, tablesAfter}
+use Rattle.scan.specs.Scan.{Line, lineAt}
+use Rattle.entries.specs.Asked.{RowAnswer, TaskRowAnswer, FigureAnswer, vcpuAsked, waitAsked, taskAsked, responseAsked}
+use Rattle.listing.specs.Listing.{verdictText}
+use Rattle.writers.specs.Into.{TextAnswer, textAnswer, textAfter}
+use Rattle.lister.specs.Asked.{listingAsked, listingLeft}
+use Rattle.lockboard.specs.declared.Board.{Board}
+use Rattle.lockboard.specs.declared.Event.{Event}
+use Rattle.lockboard.specs.declared.Event.the-variants.{Ask, Free, Use, Top, Show}
+use Rattle.lockboard.specs.declared.Outcome.{Outcome}
+use Rattle.lockboard.specs.declared.BoardAnswer.{BoardAnswer}
+use Rattle.lockboard.specs.Events.{boardText}
+use Rattle.boards.specs.Entered.{FreshBoard, freshFor, stepFor}
+use Rattle.sheets.specs.Sheet.{Task, tablesOf, sheetsAfter}
+use Rattle.sheets.specs.Replies.{Question, Reply, replyTo}
+use Rattle.exports.specs.Exported.{exported}
+
+-- an answer and what is left, two of each
+pub both-once : {A B : Type 0} {a b x : A} {u w y : B} → (a ≡ x) × (u ≡ y) → (b ≡ x) × (w ≡ y) → (a ≡ b) × (u ≡ w)
+both-once p q = (once (p .0) (q .0), once (p .1) (q .1))
+
+-- READING (reader, sheets)
+
+-- what reading into tables of numbers answers, and leaves
+abbrev Reads : List ℕ → Tables → PlanAnswer → Tables → Type 0
+Reads s t a u =
+    (a ≡ planAnswer s t)
+    × (u .vcpus ≡ tablesAfter s t .vcpus)
+    × (u .mutexes ≡ tablesAfter s t .mutexes)
+    × (u .opens ≡ tablesAfter s t .opens)
+    × (u .tasks ≡ tablesAfter s t .tasks)
+
+pub read-plan-once : (s : List ℕ) (t : Tables) {a b : PlanAnswer} {u w : Tables} → Reads s t a u → Reads s t b w →
+    (a ≡ b) × (u .vcpus ≡ w .vcpus) × (u .mutexes ≡ w .mutexes) × (u .opens ≡ w .opens) × (u .tasks ≡ w .tasks)
+read-plan-once s t p q = (once (p .0) (q .0), once (p .1) (q .1), once (p .2) (q .2), once (p .3) (q .3), once (p .4) (q .4))
+
+-- the same into a slice of records
+abbrev ReadsSheet : List ℕ → List ℕ → List ℕ → List ℕ → List Task → PlanAnswer → List ℕ → List ℕ → List ℕ → List Task → Type 0
+ReadsSheet s vt mt ot ks a v m o k =
+    (a ≡ planAnswer s (tablesOf vt mt ot ks))
+    × (v ≡ tablesAfter s (tablesOf vt mt ot ks) .vcpus)
+    × (m ≡ tablesAfter s (tablesOf vt mt ot ks) .mutexes)
+    × (o ≡ tablesAfter s (tablesOf vt mt ot ks) .opens)
+    × (k ≡ sheetsAfter s vt mt ot ks)
+
+pub read-sheet-once : (s vt mt ot : List ℕ) (ks : List Task) {a b : PlanAnswer} {v v′ m m′ o o′ : List ℕ} {k k′ : List Task} →
+    ReadsSheet s vt mt ot ks a v m o k → ReadsSheet s vt mt ot ks b v′ m′ o′ k′ → (a ≡ b) × (v ≡ v′) × (m ≡ m′) × (o ≡ o′) × (k ≡ k′)
+read-sheet-once s vt mt ot ks p q = (once (p .0) (q .0), once (p .1) (q .1), once (p .2) (q .2), once (p .3) (q .3), once (p .4) (q .4))
+
+-- the line reader (scan): `line_at`, `next_line`; `new` and `line_number` are equations with their arguments
+pub line-at-once : (s : List ℕ) (at : ℕ) {a b : Line} → a ≡ lineAt s at → b ≡ lineAt s at → a ≡ b
+line-at-once s at = once
+
+-- QUESTIONS ABOUT LENT TABLES (given, entries, sheets)
+module _ (r : PlanRecord) (t : Tables) where
+  pub is-given-once : {a b : Bool} → a ≡ isGiven r t → b ≡ isGiven r t → a ≡ b
+  is-given-once = once
+
+  pub vcpu-time-once : (v : ℕ) {a b : RowAnswer} → a ≡ vcpuAsked r t v → b ≡ vcpuAsked r t v → a ≡ b
+  vcpu-time-once v = once
+
+  pub wait-time-once : (v n i : ℕ) {a b : RowAnswer} → a ≡ waitAsked r t v n i → b ≡ waitAsked r t v n i → a ≡ b
+  wait-time-once v n i = once
+
+  pub task-time-once : (v n : ℕ) {a b : TaskRowAnswer} → a ≡ taskAsked r t v n → b ≡ taskAsked r t v n → a ≡ b
+  task-time-once v n = once
+
+  pub section-response-once : (v n i : ℕ) {a b : FigureAnswer} → a ≡ responseAsked r t v n i → b ≡ responseAsked r t v n i → a ≡ b
+  section-response-once v n i = once
+
+  pub reply-once : (q : Question) {a b : Reply} → a ≡ replyTo r t q → b ≡ replyTo r t q → a ≡ b
+  reply-once q = once
+
+  -- the listing into a lent buffer o (lister, sheets)
+  pub write-listing-once : (o : List ℕ) {a b : TextAnswer} {u w : List ℕ} →
+      (a ≡ listingAsked r t o) × (u ≡ listingLeft r t o) → (b ≡ listingAsked r t o) × (w ≡ listingLeft r t o) → (a ≡ b) × (u ≡ w)
+  write-listing-once o = both-once
+
+  -- THE BOARD (boards, sheets): the board handed back is in the outcome
+  pub fresh-once : {a b : FreshBoard} → a ≡ freshFor r t → b ≡ freshFor r t → a ≡ b
+  fresh-once = once
+
+  pub step-once : (b : Board) (e : Event) {a c : Outcome} → a ≡ stepFor r t b e → c ≡ stepFor r t b e → a ≡ c
+  step-once b e = once
+
+  pub ask-once : (b : Board) (v n m : ℕ) {a c : Outcome} → a ≡ stepFor r t b (Ask v n m) → c ≡ stepFor r t b (Ask v n m) → a ≡ c
+  ask-once b v n m = once
+
+  pub free-once : (b : Board) (v n m : ℕ) {a c : Outcome} → a ≡ stepFor r t b (Free v n m) → c ≡ stepFor r t b (Free v n m) → a ≡ c
+  free-once b v n m = once
+
+  pub use-ticks-once : (b : Board) (v u : ℕ) {a c : Outcome} → a ≡ stepFor r t b (Use v u) → c ≡ stepFor r t b (Use v u) → a ≡ c
+  use-ticks-once b v u = once
+
+  pub top-once : (b : Board) (v : ℕ) {a c : Outcome} → a ≡ stepFor r t b (Top v) → c ≡ stepFor r t b (Top v) → a ≡ c
+  top-once b v = once
+
+  pub show-once : (b : Board) (v n : ℕ) {a c : BoardAnswer} → a ≡ stepFor r t b (Show v n) .answer → c ≡ stepFor r t b (Show v n) .answer → a ≡ c
+  show-once b v n = once
+
+-- THE PROGRAMS' TEXTS (desk, exports), into a lent buffer o
+pub verdict-text-once : (s o : List ℕ) {a b : TextAnswer} {u w : List ℕ} →
+    (a ≡ textAnswer (verdictText s) o) × (u ≡ textAfter (verdictText s) o) → (b ≡ textAnswer (verdictText s) o) × (w ≡ textAfter (verdictText s) o) →
+    (a ≡ b) × (u ≡ w)
+verdict-text-once s o = both-once
+
+pub board-text-once : (p s o : List ℕ) {a b : TextAnswer} {u w : List ℕ} →
+    (a ≡ textAnswer (boardText p s) o) × (u ≡ textAfter (boardText p s) o) → (b ≡ textAnswer (boardText p s) o) × (w ≡ textAfter (boardText p s) o) →
+    (a ≡ b) × (u ≡ w)
+board-text-once p s o = both-once
+
+pub ryefrost-verdict-once : (s o : List ℕ) {a b : ℤ} {u w : List ℕ} →
+    (a ≡ exported (textAnswer (verdictText s) o)) × (u ≡ textAfter (verdictText s) o) →
+    (b ≡ exported (textAnswer (verdictText s) o)) × (w ≡ textAfter (verdictText s) o) → (a ≡ b) × (u ≡ w)
+ryefrost-verdict-once s o = both-once
+
+pub ryefrost-board-once : (p s o : List ℕ) {a b : ℤ} {u w : List ℕ} →
+    (a ≡ exported (textAnswer (boardText p s) o)) × (u ≡ textAfter (boardText p s) o) →
+    (b ≡ exported (textAnswer (boardText p s) o)) × (w ≡ textAfter (boardText p s) o) → (a ≡ b) × (u ≡ w)
+ryefrost-board-once p s o = both-once
