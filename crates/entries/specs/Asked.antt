@@ -1,7 +1,6 @@
 -- What one row of lent tables answers, asked for by its names: 9 first, then 10 for what the plan lacks, else the definition's answer.
 use Prim.Native.Nat.{ℕ}
 use mathlib.Core.Bool.{Bool, true, false, _&&_}
-use Rattle.model.specs.declared.Refusal.{Refusal}
 use Rattle.model.specs.declared.Refusal.the-variants.{Foreign, Unknown}
 use Rattle.model.specs.Lookup.{hasVcpu}
 use Rattle.tables.specs.declared.PlanRecord.{PlanRecord}

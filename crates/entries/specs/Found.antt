@@ -1,10 +1,10 @@
 -- The first row that a name has, and the laws of the code that asks for a row by its names.
 use Prim.Native.Nat.{ℕ, _+_, _-_, _*_, _/_, _%_, _<_, _≤_}
-use mathlib.Core.Path.{_≡_, refl, ap, ap₂, sym, _∙_}
+use mathlib.Core.Path.{_≡_, ap, ap₂, sym, _∙_}
 use mathlib.Core.Bool.{Bool, true, false, _&&_}
 use mathlib.Core.List.{List}
 use native.Mathlib.Omega.{arith}
-use borrow.Author.Tests.{lt-ltb, le-ltb, le-leb, lt-leb, leb-true, ne-eqb}
+use borrow.Author.Tests.{lt-ltb, le-ltb, le-leb, lt-leb, leb-true}
 use lib.Dec.{eqb, ltb, leb}
 use lib.ListN.{length, getD}
 use Rattle.laws.specs.BoolLaws.{both-left, both-right, both, miss-left, miss-right}
@@ -13,26 +13,22 @@ use Rattle.laws.specs.Sums.{any, first}
 use Rattle.laws.specs.Rows.{rows, Lacking}
 use Rattle.laws.specs.RowLaws.{rows-length, rows-at, any-found, lacking-all}
 use Rattle.search.specs.declared.Answer.{Answer}
-use Rattle.search.specs.declared.Answer.the-variants.{Fits, Late}
 use Rattle.search.specs.Search.{solve}
 use Rattle.model.specs.declared.Refusal.the-variants.{Unknown}
 use Rattle.model.specs.Plan.{Lock, Task}
 use Rattle.model.specs.Lookup.{hasVcpu, global}
 use Rattle.model.specs.Rules.{within}
 use Rattle.tables.specs.declared.PlanRecord.{PlanRecord}
-use Rattle.tables.specs.Layout.{Tables, cell, over, vcpuRow, lockRow, taskRow}
-use Rattle.tables.specs.FlatLaws.{flat-cell, each-of}
+use Rattle.tables.specs.Layout.{Tables, cell, vcpuRow, lockRow, taskRow}
 use Rattle.tables.specs.Given.{planIn, isGiven}
 use Rattle.figures.specs.System.{System, system}
 use Rattle.figures.specs.Tabled.{systemIn}
 use Rattle.figures.specs.Figures.{noVcpu, vcpuAt, waitStart, waitDemand, response}
 use Rattle.figures.specs.Named.{noTask, noLock, hasTask, taskAt, lockAt, hasSection}
 use Rattle.figures.specs.declared.TaskAnswer.{TaskAnswer}
-use Rattle.figures.specs.declared.TaskAnswer.the-variants.{Searched, NoWait, Held}
 use Rattle.figures.specs.Answers.{vcpuAnswer, waitAnswer, taskAnswer}
 use Rattle.stored.specs.Stored.{sectionResponse, Responses}
 use Rattle.laws.specs.FirstLaws.{first-row}
-use Rattle.checker.specs.Store.{taskAnswerCells, taskAnswers}
 use Rattle.checker.specs.FitLaws.{system-in}
 use Rattle.entries.specs.Asked.{Row, NoRow, TaskRow, NoTaskRow, Figure, NoFigure, hasPlace, vcpuRowOf, waitRowOf, taskRowOf, responseRowOf}
 
@@ -209,65 +205,3 @@ module _ (s : System) (ts : List ℕ) (k i : ℕ) where
         g .at (k * 8 + (i - 1)) l .is
         ∙ ap₂ (sectionResponse s ts) d e
         ∙ rw (place-lock, lt-ltb (i - 1) (cell ts 29 k 4) (omega arith), place-global)
-
--- A TASK'S ANSWER, read back from its numbers
-unfoldable pub taskOf : ℕ → ℕ → ℕ → TaskAnswer
-taskOf kind w n =
-    elim (eqb kind 0) [
-      | true ↦ Searched (Late n)
-      | false ↦ elim (eqb kind 1) [ true ↦ Searched (Fits w n) | false ↦ elim (eqb kind 2) [ true ↦ NoWait | false ↦ Held ] ]
-    ]
-
-module _ {kind : ℕ} (w n : ℕ) where
-  pub of-late : kind ≡ 0 → Searched (Late n) ≡ taskOf kind w n
-  unfolding taskOf
-  of-late e = rw e
-
-  pub of-fits : kind ≡ 1 → Searched (Fits w n) ≡ taskOf kind w n
-  unfolding taskOf
-  of-fits e = rw e
-
-  pub of-nowait : kind ≡ 2 → NoWait ≡ taskOf kind w n
-  unfolding taskOf
-  of-nowait e = rw e
-
-  pub of-held : (kind ≡ 0 → ⊥) → (kind ≡ 1 → ⊥) → (kind ≡ 2 → ⊥) → Held ≡ taskOf kind w n
-  unfolding taskOf
-  of-held d e f = passed _ _ (ne-eqb kind 2 f) ∙ passed _ _ (ne-eqb kind 1 e) ∙ passed _ _ (ne-eqb kind 0 d)
-
--- answer k of the tasks' answers
-unfoldable pub taskIn : List ℕ → ℕ → TaskAnswer
-taskIn ta k = taskOf (getD ta (k * 3) 0) (getD ta (k * 3 + 1) 0) (getD ta (k * 3 + 2) 0)
-
-three : (a : TaskAnswer) → length (taskAnswerCells a) ≡ 3
-three (Searched (Fits w n)) = refl
-three (Searched (Late n)) = refl
-three NoWait = refl
-three Held = refl
-
-task-back : (a : TaskAnswer) → taskOf (getD (taskAnswerCells a) 0 0) (getD (taskAnswerCells a) 1 0) (getD (taskAnswerCells a) 2 0) ≡ a
-unfolding taskOf
-task-back (Searched (Fits w n)) = refl
-task-back (Searched (Late n)) = refl
-task-back NoWait = refl
-task-back Held = refl
-
-module _ (s : System) (row : ℕ → Task) (n : ℕ) (e : s .tasks ≡ rows n row) (xs ta : List ℕ) (h : ta ≡ over (taskAnswers s) xs) (k : ℕ) (l : k < n) where
-  cell-back : (i j : ℕ) → i ≡ k * 3 + j → j < 3 → getD ta i 0 ≡ getD (taskAnswerCells (taskAnswer s (row k))) j 0
-  unfolding taskAnswers
-  cell-back i j p m =
-      ap₂ (λ ys q. getD ys q 0) h p
-      ∙ flat-cell (λ x. taskAnswerCells (taskAnswer s x)) 3 (s .tasks) _ noTask (each-of (s .tasks) (λ x. three (taskAnswer s x))) k j (rw (e, rows-length n row) l) m
-      ∙ ap (λ x. getD (taskAnswerCells (taskAnswer s x)) j 0) (ap (λ ys. getD ys k noTask) e ∙ rows-at n k row noTask l)
-
-  answer-back : taskIn ta k ≡ taskAnswer s (row k)
-  unfolding taskIn
-  answer-back =
-      rw (cell-back (k * 3) 0 (omega arith) (omega arith), cell-back (k * 3 + 1) 1 refl (omega arith), cell-back (k * 3 + 2) 2 refl (omega arith))
-      (task-back (taskAnswer s (row k)))
-
-pub task-read :
-    {ta : List ℕ} {k : ℕ} {a : TaskAnswer} (r : PlanRecord) (vt mt ts xs : List ℕ) → ta ≡ over (taskAnswers (systemIn r vt mt ts)) xs → k < r .tasks →
-    a ≡ taskIn ta k → a ≡ taskAnswer (systemIn r vt mt ts) (taskRow ts k)
-unfolding systemIn
-task-read {ta} {k} r vt mt ts xs h l e = e ∙ answer-back (systemIn r vt mt ts) (taskRow ts) (r .tasks) refl xs ta h k l

@@ -5,15 +5,14 @@ use search::Answer;
 use tables::PlanRecord;
 ghost use mathlib.Core.Path.{_≡_};
 ghost use mathlib.Core.Bool.{true};
-ghost use Prim.Native.Nat.{_+_, _*_, _<_, _≤_};
-ghost use lib.ListN.{length};
+ghost use Prim.Native.Nat.{_<_};
 ghost use Rattle.tables.specs.Layout.{vcpuRow, taskRow};
 ghost use Rattle.figures.specs.Tabled.{Fit, systemIn};
 ghost use Rattle.figures.specs.Figures.{response};
 ghost use Rattle.figures.specs.Named.{lockAt, hasSection};
 ghost use Rattle.figures.specs.Answers.{vcpuAnswer, waitAnswer, taskAnswer};
 ghost use Rattle.entries.specs.Asked.{vcpuRowOf, waitRowOf, taskRowOf, responseRowOf, vcpuAsked, waitAsked, taskAsked, responseAsked};
-ghost use Rattle.entries.specs.Found.{VcpuFirst, TaskFirst, taskOf, taskIn};
+ghost use Rattle.entries.specs.Found.{VcpuFirst, TaskFirst};
 
 // The answer of a VCPU's or a wait's search, or a refusal.
 pub enum RowAnswer {
@@ -123,34 +122,6 @@ fn response_at(r: PlanRecord, vt: &[u64], mt: &[u64], ts: &[u64], k: usize, i: u
     rf[k * 8 + (i - 1) as usize]
 }
 
-// The task's answer that has these numbers.
-fn task_of(kind: u64, w: u64, rounds: u64) -> TaskAnswer
-    ensures { λ a. ⌜ a ≡ taskOf kind w rounds ⌝ }
-{
-    if kind == 0 {
-        return TaskAnswer::Searched(Answer::Late { rounds: rounds });
-    }
-    if kind == 1 {
-        return TaskAnswer::Searched(Answer::Fits {
-            w: w,
-            rounds: rounds,
-        });
-    }
-    if kind == 2 {
-        TaskAnswer::NoWait
-    } else {
-        TaskAnswer::Held
-    }
-}
-
-// The task's answer number k, read back.
-fn read_task(ta: &[u64], k: usize) -> TaskAnswer
-    requires { ⌜ k * 3 + 3 ≤ length (now ta) ⌝ }
-    ensures { λ a. ⌜ a ≡ taskIn (now (ta .entry)) k ⌝ }
-{
-    task_of(ta[k * 3], ta[k * 3 + 1], ta[k * 3 + 2])
-}
-
 // The answer of task k.
 fn task_answer(r: PlanRecord, vt: &[u64], mt: &[u64], ts: &[u64], k: usize) -> TaskAnswer
     requires { ⌜ Fit r (now vt) (now mt) (now ts) × (k < r .tasks) ⌝ }
@@ -181,7 +152,7 @@ fn task_answer(r: PlanRecord, vt: &[u64], mt: &[u64], ts: &[u64], k: usize) -> T
         &mut wa,
         &mut ta,
     );
-    read_task(&ta, k)
+    told::task_answer_at(&ta, k)
 }
 
 // VCPU v of a plan.

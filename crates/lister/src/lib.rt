@@ -15,7 +15,7 @@ ghost use Rattle.writers.specs.Wrote.{Wrote};
 ghost use Rattle.writers.specs.declared.TextAnswer.the-variants.{Written, Refused};
 ghost use Rattle.writers.specs.Into.{textAnswer, textAfter};
 ghost use Rattle.order.specs.Ordered.{Ordered};
-ghost use Rattle.sizes.specs.Read.{VcpuAnswersIn, WaitAnswersIn, TaskAnswersIn, AnswersIn};
+ghost use Rattle.told.specs.Read.{VcpuAnswersIn, WaitAnswersIn, TaskAnswersIn, AnswersIn};
 ghost use Rattle.sizes.specs.Texts.{placeText, tasksEnd, vcpusEnd};
 ghost use Rattle.lister.specs.Asked.{listingAsked, listingLeft};
 
@@ -33,7 +33,7 @@ fn put_vcpu(
     ensures { λ k. ⌜ Wrote (vcpuLine (systemIn r (now (vt .entry)) (now (mt .entry)) (now (ts .entry))) (vcpuRow (now (vt .entry)) a)) (now (out .entry)) (now (out .exit)) k ⌝ }
 {
     let v = figures::vcpu_cell(r, vt, mt, ts, a, 0);
-    let x = sizes::answer_at(va, a);
+    let x = told::answer_at(va, a);
     writers::vcpu_line(out, v, x)
 }
 
@@ -73,7 +73,7 @@ fn put_wait(
     }
     let v = figures::task_cell(r, vt, mt, ts, i, 0);
     let n = figures::task_cell(r, vt, mt, ts, i, 1);
-    let x = sizes::answer_at(wa, i * 8 + j);
+    let x = told::answer_at(wa, i * 8 + j);
     writers::wait_line(out, v, n, (j + 1) as u64, x)
 }
 
@@ -117,7 +117,7 @@ fn put_task(
 {
     let v = figures::task_cell(r, vt, mt, ts, i, 0);
     let n = figures::task_cell(r, vt, mt, ts, i, 1);
-    let a = sizes::task_answer_at(ta, i);
+    let a = told::task_answer_at(ta, i);
     let k = put_waits(r, vt, mt, ts, wa, i, out);
     k + writers::task_line(&mut out[k..], v, n, a)
 }
@@ -164,7 +164,7 @@ fn put_tail(
     requires { ⌜ Fit r (now vt) (now mt) (now ts) × AnswersIn r (now vt) (now mt) (now ts) (now va) (now wa) (now ta) × Ordered (systemIn r (now vt) (now mt) (now ts)) (now ts) (now order) (r .tasks) n × (64 ≤ length (now order)) × (length (tasksEnd (systemIn r (now vt) (now mt) (now ts))) ≤ length (now out)) ⌝ }
     ensures { λ k. ⌜ Wrote (tasksEnd (systemIn r (now (vt .entry)) (now (mt .entry)) (now (ts .entry)))) (now (out .entry)) (now (out .exit)) k ⌝ }
 {
-    let fits = sizes::all_fit(r, vt, mt, ts, va, ta);
+    let fits = told::all_fit(r, vt, mt, ts, va, ta);
     let k = put_tasks(r, vt, mt, ts, wa, ta, order, n, out);
     k + writers::all_line(&mut out[k..], fits)
 }

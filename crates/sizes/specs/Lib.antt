@@ -1,4 +1,2 @@
-pub mod Read
-pub mod ReadLaws
 pub mod Texts
 pub mod TextLaws

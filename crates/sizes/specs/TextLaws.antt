@@ -7,7 +7,7 @@ use native.Mathlib.Numerals.{add-one}
 use native.Mathlib.Omega.{arith}
 use lib.ListN.{length, getD, length-append}
 use Rattle.laws.specs.Sums.{sum, flat}
-use Rattle.laws.specs.Rows.{rows, Is, Summed}
+use Rattle.laws.specs.Rows.{rows, Summed}
 use Rattle.laws.specs.RowLaws.{rows-length, summed-more, summed-all}
 use Rattle.search.specs.declared.Answer.{Answer}
 use Rattle.search.specs.TableLaws.{flat-next}
@@ -25,7 +25,7 @@ use Rattle.writers.specs.Lines.{headText, vcpuText, waitText, taskText, allText
 use Rattle.writers.specs.LineLaws.{vcpu-line, wait-line, task-line, all-line}
 use Rattle.order.specs.Ordered.{Ordered}
 use Rattle.order.specs.RisingLaws.{length-flat}
-use Rattle.sizes.specs.Read.{answerIn, taskAnswerIn, VcpuAnswersIn, WaitAnswersIn, TaskAnswersIn}
+use Rattle.told.specs.Read.{answerIn, taskAnswerIn, VcpuAnswersIn, WaitAnswersIn, TaskAnswersIn}
 use Rattle.sizes.specs.Texts.{picked, placeText, tasksEnd, vcpusEnd}
 
 -- LINES, of a row's numbers and its answer

@@ -1,96 +1,22 @@
-// A plan's answers read back from lent slices, and the size of its listing.
-use figures::TaskAnswer;
-use search::Answer;
+// The size of a plan's listing.
 use tables::PlanRecord;
-ghost use mathlib.Core.Path.{_≡_};
-ghost use Prim.Native.Nat.{_+_, _*_, _<_, _≤_};
+ghost use Prim.Native.Nat.{_<_, _≤_};
 ghost use lib.ListN.{length};
-ghost use Rattle.laws.specs.Sums.{flat, all};
-ghost use Rattle.laws.specs.Rows.{rows};
+ghost use Rattle.laws.specs.Sums.{flat};
 ghost use Rattle.tables.specs.Layout.{cell, vcpuRow, lockRow, taskRow};
 ghost use Rattle.figures.specs.Tabled.{Fit, systemIn};
-ghost use Rattle.figures.specs.Answers.{allFit};
 ghost use Rattle.listing.specs.Listing.{vcpuLine, waitLines, taskLines, rising, listing};
 ghost use Rattle.writers.specs.Wrote.{Sized};
 ghost use Rattle.order.specs.Ordered.{Ordered};
-ghost use Rattle.sizes.specs.Read.{answerOf, taskAnswerOf, answerIn, taskAnswerIn, fitsIn, VcpuAnswersIn, WaitAnswersIn, TaskAnswersIn, AnswersIn};
+ghost use Rattle.told.specs.Read.{VcpuAnswersIn, WaitAnswersIn, TaskAnswersIn, AnswersIn};
 ghost use Rattle.sizes.specs.Texts.{placeText};
-
-fn answer_of(k: u64, w: u64, n: u64) -> Answer
-    ensures { λ a. ⌜ a ≡ answerOf k w n ⌝ }
-{
-    if k == 1 {
-        Answer::Fits { w, rounds: n }
-    } else {
-        Answer::Late { rounds: n }
-    }
-}
-
-fn task_answer_of(k: u64, w: u64, n: u64) -> TaskAnswer
-    ensures { λ a. ⌜ a ≡ taskAnswerOf k w n ⌝ }
-{
-    if k == 2 {
-        return TaskAnswer::NoWait;
-    }
-    if k == 3 {
-        return TaskAnswer::Held;
-    }
-    let a = answer_of(k, w, n);
-    TaskAnswer::Searched(a)
-}
-
-// The answer at place k.
-pub fn answer_at(xs: &[u64], k: usize) -> Answer
-    requires { ⌜ k * 3 + 3 ≤ length (now xs) ⌝ }
-    ensures { λ a. ⌜ a ≡ answerIn (now (xs .entry)) k ⌝ }
-{
-    let x = xs[k * 3];
-    let y = xs[k * 3 + 1];
-    let z = xs[k * 3 + 2];
-    answer_of(x, y, z)
-}
-
-// The task's answer at place k.
-pub fn task_answer_at(xs: &[u64], k: usize) -> TaskAnswer
-    requires { ⌜ k * 3 + 3 ≤ length (now xs) ⌝ }
-    ensures { λ a. ⌜ a ≡ taskAnswerIn (now (xs .entry)) k ⌝ }
-{
-    let x = xs[k * 3];
-    let y = xs[k * 3 + 1];
-    let z = xs[k * 3 + 2];
-    task_answer_of(x, y, z)
-}
-
-// Are the first n answers all fits?
-fn rows_fit(xs: &[u64], n: usize) -> bool
-    requires { ⌜ n * 3 ≤ length (now xs) ⌝ }
-    ensures { λ b. ⌜ b ≡ all (fitsIn (now (xs .entry))) (rows n (λ k. k)) ⌝ }
-{
-    let mut k = 0;
-    while k < n {
-        let b = xs[k * 3] == 1;
-        if !b {
-            return false;
-        }
-        k += 1;
-    }
-    true
-}
-
-// Do all VCPUs and tasks fit?
-pub fn all_fit(r: PlanRecord, vt: &[u64], mt: &[u64], ts: &[u64], va: &[u64], ta: &[u64]) -> bool
-    requires { ⌜ Fit r (now vt) (now mt) (now ts) × VcpuAnswersIn r (now vt) (now mt) (now ts) (now va) × TaskAnswersIn r (now vt) (now mt) (now ts) (now ta) ⌝ }
-    ensures { λ b. ⌜ b ≡ allFit (systemIn r (now (vt .entry)) (now (mt .entry)) (now (ts .entry))) ⌝ }
-{
-    rows_fit(va, r.vcpus) & rows_fit(ta, r.tasks)
-}
 
 fn size_vcpu(r: PlanRecord, vt: &[u64], mt: &[u64], ts: &[u64], va: &[u64], a: usize) -> usize
     requires { ⌜ Fit r (now vt) (now mt) (now ts) × VcpuAnswersIn r (now vt) (now mt) (now ts) (now va) × (a < r .vcpus) ⌝ }
     ensures { λ x. ⌜ Sized (vcpuLine (systemIn r (now (vt .entry)) (now (mt .entry)) (now (ts .entry))) (vcpuRow (now (vt .entry)) a)) 75 x ⌝ }
 {
     let v = figures::vcpu_cell(r, vt, mt, ts, a, 0);
-    let x = answer_at(va, a);
+    let x = told::answer_at(va, a);
     writers::vcpu_size(v, x)
 }
 
@@ -127,7 +53,7 @@ fn size_wait(
     }
     let v = figures::task_cell(r, vt, mt, ts, i, 0);
     let n = figures::task_cell(r, vt, mt, ts, i, 1);
-    let x = answer_at(wa, i * 8 + j);
+    let x = told::answer_at(wa, i * 8 + j);
     writers::wait_size(v, n, (j + 1) as u64, x)
 }
 
@@ -160,7 +86,7 @@ fn size_task(
 {
     let v = figures::task_cell(r, vt, mt, ts, i, 0);
     let n = figures::task_cell(r, vt, mt, ts, i, 1);
-    let a = task_answer_at(ta, i);
+    let a = told::task_answer_at(ta, i);
     let x = size_waits(r, vt, mt, ts, wa, i);
     x + writers::task_size(v, n, a)
 }
@@ -203,7 +129,7 @@ pub fn listing_size(
     requires { ⌜ Fit r (now vt) (now mt) (now ts) × AnswersIn r (now vt) (now mt) (now ts) (now va) (now wa) (now ta) × Ordered (systemIn r (now vt) (now mt) (now ts)) (now ts) (now order) (r .tasks) n × (64 ≤ length (now order)) ⌝ }
     ensures { λ x. ⌜ Sized (listing (systemIn r (now (vt .entry)) (now (mt .entry)) (now (ts .entry)))) 63683 x ⌝ }
 {
-    let fits = all_fit(r, vt, mt, ts, va, ta);
+    let fits = told::all_fit(r, vt, mt, ts, va, ta);
     let x = writers::head_size();
     let y = size_vcpus(r, vt, mt, ts, va);
     let z = size_tasks(r, vt, mt, ts, wa, ta, order, n);

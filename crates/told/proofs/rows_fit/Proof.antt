@@ -3,10 +3,10 @@ use mathlib.Core.Path.{refl}
 use Prim.Native.Nat.{_-_}
 use Rattle.laws.specs.Rows.{Passed}
 use Rattle.laws.specs.RowLaws.{passed-none, passed-more, passed-out, passed-all}
-use Rattle.sizes.specs.Read.{fitsIn}
+use Rattle.told.specs.Read.{fitsIn}
 use borrow.Author.Needs.{needs}
-use Rattle.sizes.proofs.rows_fit.Statement.{statement}
-use Rattle.sizes.proofs.rows_fit.Tie as tie
+use Rattle.told.proofs.rows_fit.Statement.{statement}
+use Rattle.told.proofs.rows_fit.Tie as tie
 
 pub rows-fit-spec : {M : Type 1} → statement M
 rows-fit-spec =

@@ -1,8 +1,8 @@
 -- `answer_at` meets its contract.
-use Rattle.sizes.specs.Read.{answerIn}
+use Rattle.told.specs.Read.{answerIn}
 use borrow.Author.Needs.{needs}
-use Rattle.sizes.proofs.answer_at.Statement.{statement}
-use Rattle.sizes.proofs.answer_at.Tie as tie
+use Rattle.told.proofs.answer_at.Statement.{statement}
+use Rattle.told.proofs.answer_at.Tie as tie
 
 pub answer-at-spec : {M : Type 1} → statement M
 unfolding answerIn

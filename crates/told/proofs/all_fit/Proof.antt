@@ -1,8 +1,8 @@
 -- `all_fit` meets its contract.
-use Rattle.sizes.specs.ReadLaws.{all-read}
+use Rattle.told.specs.ReadLaws.{all-read}
 use borrow.Author.Needs.{needs}
-use Rattle.sizes.proofs.all_fit.Statement.{statement}
-use Rattle.sizes.proofs.all_fit.Tie as tie
+use Rattle.told.proofs.all_fit.Statement.{statement}
+use Rattle.told.proofs.all_fit.Tie as tie
 
 pub all-fit-spec : {M : Type 1} → statement M
 all-fit-spec =

@@ -3,8 +3,8 @@ use borrow.Author.Tests.{eq-eqb, ne-eqb}
 use mathlib.Core.Path.{ap}
 use Rattle.figures.specs.declared.TaskAnswer.the-variants.{Searched}
 use borrow.Author.Needs.{needs}
-use Rattle.sizes.proofs.task_answer_of.Statement.{statement}
-use Rattle.sizes.proofs.task_answer_of.Tie as tie
+use Rattle.told.proofs.task_answer_of.Statement.{statement}
+use Rattle.told.proofs.task_answer_of.Tie as tie
 
 pub task-answer-of-spec : {M : Type 1} → statement M
 task-answer-of-spec =

@@ -30,7 +30,7 @@ use Rattle.checker.specs.Store.{vcpuAnswers, waitAnswers, taskAnswers}
 use Rattle.answers.specs.Filled.{rowCells, answerRow, taskAnswerRow, isSection, placeRow, placeAt, Filled}
 use Rattle.answers.specs.FilledLaws.{front-length}
 use Rattle.answers.specs.Places.{place-section, vcpus-over, waits-over, tasks-over}
-use Rattle.sizes.specs.Read.{answerOf, taskAnswerOf, answerIn, taskAnswerIn, fitsIn, VcpuAnswersIn, WaitAnswersIn, TaskAnswersIn, AnswersIn}
+use Rattle.told.specs.Read.{answerOf, taskAnswerOf, answerIn, taskAnswerIn, fitsIn, VcpuAnswersIn, WaitAnswersIn, TaskAnswersIn, AnswersIn}
 
 -- AN ANSWER'S NUMBERS ARE THAT ANSWER
 
@@ -99,7 +99,7 @@ module _ {r : PlanRecord} {vt mt ts : List ℕ} (fit : Fit r vt mt ts) where
         at = λ a l. answer-read va a (vcpuAnswer s (vcpuRow vt a)) (row-read f (vcpuRow vt) (r .vcpus) va₀ va _ e g a l);
       }
 
-  tasks-in : (ta₀ : List ℕ) {ta : List ℕ} → 192 ≤ length ta₀ → length ta ≡ length ta₀ → ta ≡ over (taskAnswers (systemIn r vt mt ts)) ta₀ → TaskAnswersIn r vt mt ts ta
+  pub tasks-in : (ta₀ : List ℕ) {ta : List ℕ} → 192 ≤ length ta₀ → length ta ≡ length ta₀ → ta ≡ over (taskAnswers (systemIn r vt mt ts)) ta₀ → TaskAnswersIn r vt mt ts ta
   unfolding systemIn
   tasks-in ta₀ {ta} h m e =
       let s = systemIn r vt mt ts in

@@ -1,8 +1,8 @@
 -- `task_answer_at` meets its contract.
-use Rattle.sizes.specs.Read.{taskAnswerIn}
+use Rattle.told.specs.Read.{taskAnswerIn}
 use borrow.Author.Needs.{needs}
-use Rattle.sizes.proofs.task_answer_at.Statement.{statement}
-use Rattle.sizes.proofs.task_answer_at.Tie as tie
+use Rattle.told.proofs.task_answer_at.Statement.{statement}
+use Rattle.told.proofs.task_answer_at.Tie as tie
 
 pub task-answer-at-spec : {M : Type 1} → statement M
 unfolding taskAnswerIn

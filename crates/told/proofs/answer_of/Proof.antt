@@ -1,7 +1,7 @@
 -- `answer_of` meets its contract.
 use borrow.Author.Tests.{eq-eqb, ne-eqb}
-use Rattle.sizes.proofs.answer_of.Statement.{statement}
-use Rattle.sizes.proofs.answer_of.Tie as tie
+use Rattle.told.proofs.answer_of.Statement.{statement}
+use Rattle.told.proofs.answer_of.Tie as tie
 
 pub answer-of-spec : {M : Type 1} → statement M
 answer-of-spec =
