@@ -15,7 +15,7 @@ use Rattle.laws.specs.RowLaws.{rows-length, rows-at, any-found, lacking-all}
 use Rattle.search.specs.declared.Answer.{Answer}
 use Rattle.search.specs.Search.{solve}
 use Rattle.model.specs.declared.Refusal.the-variants.{Unknown}
-use Rattle.model.specs.Plan.{Lock, Task}
+use Rattle.model.specs.Plan.{Lock}
 use Rattle.model.specs.Lookup.{hasVcpu, global}
 use Rattle.model.specs.Rules.{within}
 use Rattle.tables.specs.declared.PlanRecord.{PlanRecord}

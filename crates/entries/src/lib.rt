@@ -127,31 +127,10 @@ fn task_answer(r: PlanRecord, vt: &[u64], mt: &[u64], ts: &[u64], k: usize) -> T
     requires { ⌜ Fit r (now vt) (now mt) (now ts) × (k < r .tasks) ⌝ }
     ensures { λ x. ⌜ x ≡ taskAnswer (systemIn r (now (vt .entry)) (now (mt .entry)) (now (ts .entry))) (taskRow (now (ts .entry)) k) ⌝ }
 {
-    let mut tf = [0u64; 320];
-    let mut vf = [0u64; 48];
-    let mut rf = [0u64; 512];
-    let mut rows = [0u64; 240];
-    let mut ws = [0u64; 64];
-    let mut fs = [0u64; 64];
     let mut va = [0u64; 48];
     let mut wa = [0u64; 1536];
     let mut ta = [0u64; 192];
-    stored::stored(r, vt, mt, ts, &mut tf, &mut vf, &mut rf);
-    answers::answers(
-        r,
-        vt,
-        mt,
-        ts,
-        &tf,
-        &vf,
-        &rf,
-        &mut rows,
-        &mut ws,
-        &mut fs,
-        &mut va,
-        &mut wa,
-        &mut ta,
-    );
+    told::fill_answers(r, vt, mt, ts, &mut va, &mut wa, &mut ta);
     told::task_answer_at(&ta, k)
 }
 

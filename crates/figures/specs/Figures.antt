@@ -13,10 +13,11 @@ use Rattle.model.specs.Plan.{Vcpu, Lock, Task}
 use Rattle.model.specs.Lookup.{global, localTo}
 use Rattle.figures.specs.System.{System}
 
--- the VCPU that a task names
+-- what is said of a VCPU that the plan lacks: zeros
 abbrev pub noVcpu : Vcpu
 noVcpu = record { v = 0; guest = 0; core = 0; budget = 0; period = 0 }
 
+-- VCPU v of the plan, which a task or a section names
 unfoldable pub vcpuAt : System → ℕ → Vcpu
 vcpuAt p v = first (λ x. eqb (x .v) v) noVcpu (p .vcpus)
 

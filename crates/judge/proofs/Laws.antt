@@ -1,6 +1,6 @@
 -- What holds at a known kind.
 use Prim.Native.Nat.{ℕ}
-use mathlib.Core.Path.{_≡_, refl}
+use mathlib.Core.Path.{_≡_}
 use mathlib.Core.Bool.{Bool, _&&_}
 use Rattle.model.specs.declared.Kind.{Kind}
 use Rattle.model.specs.Line.{Item, shape, written}

@@ -12,7 +12,7 @@ use lib.ListN.{length, getD, length-append, List·getD-append}
 use lib.Seq.{ext-getD, getD-at}
 use Rattle.laws.specs.BoolLaws.{both, miss-left, miss-right, either-left, either-right, neither}
 use Rattle.laws.specs.Sums.{sum, greatest, any, all, Each}
-use Rattle.laws.specs.SumLaws.{sum-append, sum-one, sum-at, greatest-append, greatest-one, greatest-at, any-append, all-append, all-each, each-append, each-at}
+use Rattle.laws.specs.SumLaws.{sum-append, sum-one, greatest-append, greatest-one, any-append, all-append, all-each, each-append, each-at}
 use Rattle.laws.specs.Range.{listTo}
 use Rattle.laws.specs.Rows.{rows, Is, Summed, Capped, Greatest, Lacking, Passed}
 

@@ -1,8 +1,8 @@
 -- What is said is the line's item; and what code reads, field by field, is what is said.
-use Prim.Native.Nat.{ℕ, zero, suc, pred, _≤_}
+use Prim.Native.Nat.{ℕ, zero, suc, pred}
 use mathlib.Core.Path.{_≡_, refl, ap, _∙_}
 use mathlib.Core.List.{List, [], _∷_}
-use mathlib.Core.Option.{some, none}
+use mathlib.Core.Option.{some}
 use mathlib.Core.Bool.{Bool, true, false, cond, and-true}
 use native.Mathlib.Omega.{arith}
 use lib.ListN.{length}
@@ -10,7 +10,6 @@ use Rattle.laws.specs.BoolLaws.{both-right}
 use Rattle.laws.specs.Bytes.{pieces, same}
 use Rattle.laws.specs.Choice.{when}
 use Rattle.laws.specs.Decimal.{value}
-use Rattle.laws.specs.DecimalLaws.{value-small}
 use Rattle.laws.specs.Fields.{before, after, count, field, fieldsTo}
 use Rattle.laws.specs.Steps.{pieces-fields, pieces-length}
 use Rattle.model.specs.Limits.{maxDigits, tab}
@@ -18,9 +17,9 @@ use Rattle.model.specs.declared.Kind.{Kind}
 use Rattle.model.specs.declared.Kind.the-variants.{PlanLine, PolicyPO, PolicyPN, PolicyDO, PolicyDN, VcpuLine, MutexG, MutexL, OpenLine, GuestLine, TaskLine, RunLine, LockLine, EndLine, AskLine, FreeLine, UseLine, TopLine, ShowLine}
 use Rattle.model.specs.declared.Found.{Found}
 use Rattle.model.specs.declared.Found.the-variants.{Is, Nothing}
-use Rattle.model.specs.Line.{Form, Word, Num, Item, bad, shape, kinds, hasShape, numbers, kindIn, itemFrom, itemOf, written}
+use Rattle.model.specs.Line.{Form, Word, Num, Item, shape, kinds, hasShape, numbers, kindIn, itemFrom, itemOf, written}
 use Rattle.model.specs.Rules.{nth}
-use Rattle.lines.specs.Said.{Said, numbersIn, saidAs, saidOf, itemAs, saidItem, itemSaid}
+use Rattle.lines.specs.Said.{numbersIn, saidAs, saidOf, saidItem, itemSaid}
 use Rattle.model.specs.Line.{size, numsOf}
 use Rattle.lines.specs.Code.{sizeIn, pickOf, saidBy, writtenBy}
 

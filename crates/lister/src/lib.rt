@@ -272,43 +272,6 @@ fn put_answered(
     written(k)
 }
 
-// Fills every answer of the plan in the tables.
-fn fill_answers(
-    r: PlanRecord,
-    vt: &[u64],
-    mt: &[u64],
-    ts: &[u64],
-    va: &mut [u64],
-    wa: &mut [u64],
-    ta: &mut [u64],
-)
-    requires { ⌜ Fit r (now vt) (now mt) (now ts) × (48 ≤ length (now va)) × (1536 ≤ length (now wa)) × (192 ≤ length (now ta)) ⌝ }
-    ensures { λ _. ⌜ AnswersIn r (now (vt .entry)) (now (mt .entry)) (now (ts .entry)) (now (va .exit)) (now (wa .exit)) (now (ta .exit)) ⌝ }
-{
-    let mut tf = [0u64; 320];
-    let mut vf = [0u64; 48];
-    let mut rf = [0u64; 512];
-    let mut rows = [0u64; 240];
-    let mut ws = [0u64; 64];
-    let mut fs = [0u64; 64];
-    stored::stored(r, vt, mt, ts, &mut tf, &mut vf, &mut rf);
-    answers::answers(
-        r,
-        vt,
-        mt,
-        ts,
-        &tf,
-        &vf,
-        &rf,
-        &mut rows,
-        &mut ws,
-        &mut fs,
-        va,
-        wa,
-        ta,
-    );
-}
-
 // Inner: writes the listing of a plan in tables that passed the test for 9. With too little room 8, and the buffer as it was lent.
 pub fn listing_into(r: PlanRecord, vt: &[u64], mt: &[u64], ts: &[u64], out: &mut [u8]) -> TextAnswer
     requires { ⌜ Fit r (now vt) (now mt) (now ts) ⌝ }
@@ -319,7 +282,7 @@ pub fn listing_into(r: PlanRecord, vt: &[u64], mt: &[u64], ts: &[u64], out: &mut
     let mut wa = [0u64; 1536];
     let mut ta = [0u64; 192];
     let mut order = [0u64; 64];
-    fill_answers(r, vt, mt, ts, &mut va, &mut wa, &mut ta);
+    told::fill_answers(r, vt, mt, ts, &mut va, &mut wa, &mut ta);
     let n = order::rising(r, vt, mt, ts, &mut order);
     put_answered(r, vt, mt, ts, &va, &wa, &ta, &order, n, out)
 }

@@ -12,7 +12,7 @@ use Rattle.listing.specs.Listing.{vcpuLine, waitLine, taskLines, rising, allLin
 abbrev pub picked : Bool → List ℕ → List ℕ
 picked b t = elim b [ true ↦ t | false ↦ [] ]
 
--- the line of place j of task k, nothing where its lock is local; places are counted from 1
+-- the line of lock j of task k, nothing where it is local: j counts from 0, and the place that is printed from 1
 unfoldable pub placeText : System → Task → (ℕ → Lock) → ℕ → List ℕ
 placeText s k lock j = picked (global (s .mutexes) (lock j .m)) (waitLine s k (j + 1) (lock j))
 

@@ -1,22 +1,18 @@
--- Laws of the code that writes the view: the first row that passes, the highest name that passes, and the cells by their places.
+-- Laws of the code that writes the view: the highest name that passes, and the cells by their places.
 use Prim.Native.Nat.{ℕ, zero, suc, _+_, _-_, _*_, _/_, _%_, _<_, _≤_}
 use mathlib.Core.Path.{_≡_, refl, ap, sym, _∙_}
-use mathlib.Core.Bool.{Bool, true, false, _&&_, _||_}
-use mathlib.Core.List.{List, [], _∷_, _++_}
-use native.Mathlib.Decide.{le-ind}
+use mathlib.Core.Bool.{Bool, true, false, _&&_}
+use mathlib.Core.List.{List}
 use native.Mathlib.Omega.{arith}
 use borrow.Author.Count.{below-more}
 use lib.Dec.{eqb, ltb}
-use lib.ListN.{length, getD, set, take, length-set, length-take}
-use lib.Seq.{getD-set-same, getD-set-other, getD-take, ext-getD}
-use Rattle.laws.specs.BoolLaws.{both-left, both-right, both, neither-left, neither-right}
+use lib.ListN.{length, getD, set, take, length-set}
+use lib.Seq.{getD-set-same, getD-set-other, getD-take}
+use Rattle.laws.specs.BoolLaws.{both-left, both-right, both}
 use Rattle.laws.specs.Choice.{when}
-use Rattle.laws.specs.Sums.{any, first}
-use Rattle.laws.specs.SumLaws.{first-in, first-out}
+use Rattle.laws.specs.Sums.{first}
 use Rattle.laws.specs.Range.{highest}
 use Rattle.laws.specs.RangeLaws.{highest-hit, highest-miss}
-use Rattle.laws.specs.Rows.{rows, Lacking}
-use Rattle.laws.specs.RowLaws.{any-found}
 use Rattle.model.specs.Limits.{maxV, maxM, maxN}
 use Rattle.model.specs.declared.Policy.{Policy}
 use Rattle.model.specs.declared.OverrunChoice.{OverrunChoice}
@@ -28,39 +24,8 @@ use Rattle.figures.specs.Named.{hasTask}
 use Rattle.lockboard.specs.Facts.{lists, factsOf}
 use Rattle.lockboard.specs.View.{atOverrun, atOwner, atCeiling, atTask, atLists, viewLength, globalOwner, isV, isN, isM, factsIn}
 use Rattle.lockboard.specs.Board.{seat}
-use Rattle.keeps.specs.Fair.{Fair}
-use Rattle.keeps.specs.FairLaws.{fair}
 use Rattle.views.specs.ViewOf.{bit, ownerOf, viewOf}
-use Rattle.views.specs.ViewLaws.{name-in, in-name, facts-in, view-length, budget-cell, overrun-cell, owner-cell, ceiling-cell, task-cell, sheet-cell}
-
--- THE FIRST ROW THAT PASSES
-module _ {A : Type 0} (q : A → Bool) (d : A) where
-  first-after : (xs ys : List A) → any q xs ≡ false → first q d (xs ++ ys) ≡ first q d ys
-  unfolding any
-  first-after [] ys h = refl
-  first-after (x ∷ xs) ys h =
-      first-out q d x (xs ++ ys) (neither-left (q x) (any q xs) h) ∙ first-after xs ys (neither-right (q x) (any q xs) h)
-
-  first-before : (xs ys : List A) → any q xs ≡ true → first q d (xs ++ ys) ≡ first q d xs
-  unfolding any
-  first-before [] ys h = absurd (let z : _≡_ {A = ℕ} 0 1 = cc in omega arith)
-  first-before (x ∷ xs) ys h = go (q x) refl h (first-before xs ys)
-    where
-      go :
-          (t : Bool) → q x ≡ t → (t || any q xs) ≡ true → (any q xs ≡ true → first q d (xs ++ ys) ≡ first q d xs) →
-          first q d (x ∷ (xs ++ ys)) ≡ first q d (x ∷ xs)
-      go true e h ih = first-in q d x (xs ++ ys) e ∙ sym (first-in q d x xs e)
-      go false e h ih = first-out q d x (xs ++ ys) e ∙ ih h ∙ sym (first-out q d x xs e)
-
-  -- no row before row i passes, and it does
-  pub first-row : (row : ℕ → A) (n i : ℕ) → Lacking q row n i → i < n → q (row i) ≡ true → first q d (rows n row) ≡ row i
-  unfolding rows
-  first-row row n i h l e =
-      le-ind (λ m. first q d (rows m row) ≡ row i)
-      (first-after (rows i row) (row i ∷ []) (h .is) ∙ first-in q d (row i) [] e)
-      (λ m k t. first-before (rows m row) (row m ∷ []) (any-found q row m i k e) ∙ t)
-      n
-      l
+use Rattle.views.specs.ViewLaws.{name-in, in-name, facts-in, budget-cell, overrun-cell, owner-cell, ceiling-cell, task-cell, sheet-cell}
 
 -- THE HIGHEST NAME THAT PASSES, from n down: none above v does
 pub record Above (n : ℕ) (f : ℕ → Bool) (v : ℕ) : Type 0 where
@@ -115,31 +80,30 @@ module _ (s : System) where
       at-place (96 + (seat v n - 1)) k (omega arith)
       (task-cell s v n (both (isV v) (isN n) (name-in v maxV (omega arith) (omega arith)) (name-in n maxN (omega arith) (omega arith))))
 
-  pub sheet-place :
-      (k : ℕ) → 224 ≤ k → k < 4320 → bit (lists s ((k - 224) / 256 + 1) ((k - 224) / 32 % 8 + 1) ((k - 224) % 32 + 1)) ≡ getD (viewOf s) k 0
-  sheet-place k h l =
-      let v = (k - 224) / 256 + 1 in
-      let n = (k - 224) / 32 % 8 + 1 in
-      let m = (k - 224) % 32 + 1 in
-      at-place (224 + ((seat v n - 1) * 32 + (m - 1))) k (omega arith)
+  -- number j of the sheets
+  pub sheet-place : (j : ℕ) → j < 4096 → bit (lists s (j / 256 + 1) (j / 32 % 8 + 1) (j % 32 + 1)) ≡ getD (viewOf s) (224 + j) 0
+  sheet-place j l =
+      let v = j / 256 + 1 in
+      let n = j / 32 % 8 + 1 in
+      let m = j % 32 + 1 in
+      at-place (224 + ((seat v n - 1) * 32 + (m - 1))) (224 + j) (omega arith)
       (sheet-cell s v n m
       (both (isV v && isN n) (isM m)
       (both (isV v) (isN n) (name-in v maxV (omega arith) (omega arith)) (name-in n maxN (omega arith) (omega arith))) (name-in m maxM (omega arith) (omega arith))))
 
--- the first i numbers are the view's
-pub record Written (s : System) (n : ℕ) (view : List ℕ) (i k : ℕ) : Type 0 where
+-- the first i numbers are those of f
+pub record Written (f : ℕ → ℕ) (n : ℕ) (view : List ℕ) (i k : ℕ) : Type 0 where
   pub same : i ≡ k
   pub within : k ≤ viewLength
   pub room : length view ≡ n
-  pub at : (j : ℕ) → j < k → getD view j 0 ≡ getD (viewOf s) j 0
+  pub at : (j : ℕ) → j < k → getD view j 0 ≡ f j
 
-module _ {s : System} {n : ℕ} where
-  pub written-none : {view : List ℕ} → length view ≡ n → Written s n view 0 0
+module _ {f : ℕ → ℕ} {n : ℕ} where
+  pub written-none : {view : List ℕ} → length view ≡ n → Written f n view 0 0
   written-none e = record { same = refl; within = omega arith; room = e; at = λ j l. absurd (omega arith) }
 
   pub written-more :
-      {view : List ℕ} {i k x : ℕ} → viewLength ≤ n → Written s n view i k → k < viewLength → x ≡ getD (viewOf s) k 0 →
-      Written s n (set view i x) (i + 1) (k + 1)
+      {view : List ℕ} {i k x : ℕ} → viewLength ≤ n → Written f n view i k → k < viewLength → x ≡ f k → Written f n (set view i x) (i + 1) (k + 1)
   written-more {view} {i} {k} {x} r h l e = record {
     same = omega (arith, h .same);
     within = omega arith;
@@ -149,13 +113,6 @@ module _ {s : System} {n : ℕ} where
         below-more _ _ (λ j m. rw (getD-set-other view i j x 0 (λ q. omega arith)) (h .at j m))
         (rw z (getD-set-same view i x 0 (omega (arith, h .room)) ∙ (rw z at e)));
   }
-
-  pub written-all : {view : List ℕ} {i k : ℕ} → viewLength ≤ n → Written s n view i k → viewLength ≤ k → take viewLength view ≡ viewOf s
-  written-all {view} r h l =
-      let e = length-take viewLength view in
-      let a = view-length s in
-      let b = h .room in
-      ext-getD 0 (take viewLength view) (viewOf s) (omega arith) (λ j m. getD-take viewLength view j 0 (omega arith) ∙ h .at j (omega arith))
 
 -- A LONGER VIEW
 
@@ -200,6 +157,3 @@ module _ (p : Policy) (o : OverrunChoice) (t : List ℕ) where
 -- a slice that begins with the view of a valid plan says the plan's facts
 pub filled-facts : (p : Plan) (t : List ℕ) → Valid p → take viewLength t ≡ viewOf (system p) → factsIn (p .policy) (p .overrun) t ≡ factsOf (system p)
 filled-facts p t h e = sym (facts-take (p .policy) (p .overrun) t) ∙ ap (factsIn (p .policy) (p .overrun)) e ∙ facts-in p h
-
-pub filled-fair : (p : Plan) (t : List ℕ) → Valid p → take viewLength t ≡ viewOf (system p) → Fair (factsIn (p .policy) (p .overrun) t)
-filled-fair p t h e = rw (filled-facts p t h e) (fair p h)

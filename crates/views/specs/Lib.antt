@@ -3,4 +3,6 @@ pub mod PartLaws
 pub mod OwnerLaws
 pub mod ViewLaws
 pub mod FillLaws
+pub mod Sheets
+pub mod SheetLaws
 pub mod TableLaws

@@ -15,8 +15,6 @@ use Rattle.figures.specs.System.{system}
 use Rattle.figures.specs.Tabled.{systemIn}
 use Rattle.lockboard.specs.Facts.{factsOf}
 use Rattle.lockboard.specs.View.{viewLength, factsIn}
-use Rattle.keeps.specs.Fair.{Fair}
-use Rattle.keeps.specs.FairLaws.{fair}
 use Rattle.views.specs.ViewOf.{viewOf}
 use Rattle.views.specs.FillLaws.{filled-facts}
 
@@ -42,7 +40,3 @@ module _ {p : Plan} {r : PlanRecord} {t : Tables} (view : List ℕ) (h : Valid p
   given-facts =
       ap₂ (λ x y. factsIn x y view) (ap (λ (x : PlanRecord). x .policy) (g .recorded)) (ap (λ (x : PlanRecord). x .overrun) (g .recorded))
       ∙ filled-facts p view h (e ∙ ap viewOf (system-given h g))
-
-  -- and so those facts are fair
-  pub given-fair : Fair (factsIn (r .policy) (r .overrun) view)
-  given-fair = rw given-facts (fair p h)

@@ -9,13 +9,14 @@ ghost use lib.ListN.{length, getD, take};
 ghost use Rattle.laws.specs.Choice.{when};
 ghost use Rattle.laws.specs.Range.{highest};
 ghost use Rattle.laws.specs.Rows.{Is};
-ghost use Rattle.model.specs.Lookup.{isLocalTo, localTo};
-ghost use Rattle.tables.specs.Layout.{cell, mutexRow, taskRow};
+ghost use Rattle.model.specs.Lookup.{localTo};
+ghost use Rattle.tables.specs.Layout.{taskRow};
 ghost use Rattle.figures.specs.Tabled.{Fit, systemIn};
-ghost use Rattle.figures.specs.Figures.{vcpuAt, longestGlobal, ght, overrunBy, overrunOf, locksIt};
+ghost use Rattle.figures.specs.Figures.{vcpuAt, longestGlobal, ght, overrunBy, overrunOf};
 ghost use Rattle.figures.specs.Named.{hasTask};
-ghost use Rattle.lockboard.specs.Facts.{lists};
+ghost use Rattle.lockboard.specs.View.{isV, isN, isM};
 ghost use Rattle.views.specs.ViewOf.{bit, ownerOf, viewOf};
+ghost use Rattle.views.specs.Sheets.{Names, placeOf, blankAt, Blank, inTurn, marked, markedBy};
 
 // The budget of VCPU v, 0 where there is no such VCPU.
 fn budget_of(r: PlanRecord, vt: &[u64], mt: &[u64], ts: &[u64], v: u64) -> u64
@@ -124,39 +125,6 @@ fn has_task(r: PlanRecord, vt: &[u64], mt: &[u64], ts: &[u64], v: u64, n: u64) -
     false
 }
 
-// Is task row i the task (v, n), and does it lock m?
-fn row_lists(
-    r: PlanRecord,
-    vt: &[u64],
-    mt: &[u64],
-    ts: &[u64],
-    i: usize,
-    v: u64,
-    n: u64,
-    m: u64,
-) -> bool
-    requires { ⌜ Fit r (now vt) (now mt) (now ts) × (i < r .tasks) ⌝ }
-    ensures { λ x. ⌜ x ≡ ((eqb (taskRow (now (ts .entry)) i .v) v && eqb (taskRow (now (ts .entry)) i .n) n) && locksIt m (taskRow (now (ts .entry)) i)) ⌝ }
-{
-    figures::row_task(r, vt, mt, ts, i, v, n) & figures::locks_it(r, vt, mt, ts, i, m)
-}
-
-// Does the sheet of task (v, n) lock m?
-fn lists_it(r: PlanRecord, vt: &[u64], mt: &[u64], ts: &[u64], v: u64, n: u64, m: u64) -> bool
-    requires { ⌜ Fit r (now vt) (now mt) (now ts) ⌝ }
-    ensures { λ x. ⌜ x ≡ lists (systemIn r (now (vt .entry)) (now (mt .entry)) (now (ts .entry))) v n m ⌝ }
-{
-    let e = r.tasks;
-    let mut a = 0;
-    while a < e {
-        if row_lists(r, vt, mt, ts, a, v, n, m) {
-            return true;
-        }
-        a += 1;
-    }
-    false
-}
-
 // 1 where the test holds, else 0.
 fn bit_of(t: bool) -> u64
     ensures { λ x. ⌜ x ≡ bit t ⌝ }
@@ -164,9 +132,9 @@ fn bit_of(t: bool) -> u64
     if t { 1 } else { 0 }
 }
 
-// Number k of the view.
+// Number k of the view, before the sheets.
 fn view_cell(r: PlanRecord, vt: &[u64], mt: &[u64], ts: &[u64], k: u64) -> u64
-    requires { ⌜ Fit r (now vt) (now mt) (now ts) × (k < 4320) ⌝ }
+    requires { ⌜ Fit r (now vt) (now mt) (now ts) × (k < 224) ⌝ }
     ensures { λ x. ⌜ x ≡ getD (viewOf (systemIn r (now (vt .entry)) (now (mt .entry)) (now (ts .entry)))) k 0 ⌝ }
 {
     if k < 16 {
@@ -181,18 +149,89 @@ fn view_cell(r: PlanRecord, vt: &[u64], mt: &[u64], ts: &[u64], k: u64) -> u64
     if k < 96 {
         return figures::ceiling_of(r, vt, mt, ts, k - 63);
     }
+    bit_of(has_task(r, vt, mt, ts, (k - 96) / 8 + 1, (k - 96) % 8 + 1))
+}
+
+// Number k of the view, 0 in the sheets.
+fn blank_cell(r: PlanRecord, vt: &[u64], mt: &[u64], ts: &[u64], k: u64) -> u64
+    requires { ⌜ Fit r (now vt) (now mt) (now ts) ⌝ }
+    ensures { λ x. ⌜ x ≡ blankAt (systemIn r (now (vt .entry)) (now (mt .entry)) (now (ts .entry))) k ⌝ }
+{
     if k < 224 {
-        return bit_of(has_task(r, vt, mt, ts, (k - 96) / 8 + 1, (k - 96) % 8 + 1));
+        view_cell(r, vt, mt, ts, k)
+    } else {
+        0
     }
-    bit_of(lists_it(
-        r,
-        vt,
-        mt,
-        ts,
-        (k - 224) / 256 + 1,
-        (k - 224) / 32 % 8 + 1,
-        (k - 224) % 32 + 1,
-    ))
+}
+
+// Writes the view with zeros for its sheets.
+fn fill_blank(r: PlanRecord, vt: &[u64], mt: &[u64], ts: &[u64], view: &mut [u64])
+    requires { ⌜ Fit r (now vt) (now mt) (now ts) × (4320 ≤ length (now view)) ⌝ }
+    ensures { λ out. ⌜ Blank (systemIn r (now (vt .entry)) (now (mt .entry)) (now (ts .entry))) (now (view .exit)) ⌝ }
+{
+    let mut i = 0;
+    let mut k: u64 = 0;
+    while k < 4320 {
+        let x = blank_cell(r, vt, mt, ts, k);
+        view[i] = x;
+        i += 1;
+        k += 1;
+    }
+}
+
+// Is (v, n) a seat, and m the name of a mutex?
+fn in_sheets(v: u64, n: u64, m: u64) -> bool
+    ensures { λ x. ⌜ x ≡ ((isV v && isN n) && isM m) ⌝ }
+{
+    (((1 <= v) & (v <= 16)) & ((1 <= n) & (n <= 8))) & ((1 <= m) & (m <= 32))
+}
+
+// The place in the view that says whether the sheet of task (v, n) locks m.
+fn place_of(v: u64, n: u64, m: u64) -> u64
+    requires { ⌜ Names v n m ⌝ }
+    ensures { λ x. ⌜ Is x (placeOf v n m) 4319 ⌝ }
+{
+    224 + (((v - 1) * 8 + n - 1) * 32 + (m - 1))
+}
+
+// Writes that the sheet of task (v, n) locks m.
+fn mark(v: u64, n: u64, m: u64, view: &mut [u64])
+    requires { ⌜ 4320 ≤ length (now view) ⌝ }
+    ensures { λ out. ⌜ now (view .exit) ≡ marked v n m (now (view .entry)) ⌝ }
+{
+    if in_sheets(v, n, m) {
+        let k = place_of(v, n, m) as usize;
+        view[k] = 1;
+    }
+}
+
+// Writes the locks of task row a in its sheet.
+fn mark_row(r: PlanRecord, vt: &[u64], mt: &[u64], ts: &[u64], a: usize, view: &mut [u64])
+    requires { ⌜ Fit r (now vt) (now mt) (now ts) × (a < r .tasks) × (4320 ≤ length (now view)) ⌝ }
+    ensures { λ out. ⌜ now (view .exit) ≡ markedBy (taskRow (now (ts .entry)) a) (now (view .entry)) ⌝ }
+{
+    let v = figures::task_cell(r, vt, mt, ts, a, 0);
+    let n = figures::task_cell(r, vt, mt, ts, a, 1);
+    let e = figures::lock_count(r, vt, mt, ts, a);
+    let mut j = 0;
+    while j < e {
+        let m = figures::lock_cell(r, vt, mt, ts, a, j, 0);
+        mark(v, n, m, view);
+        j += 1;
+    }
+}
+
+// Writes the locks of each task row in its sheet.
+fn mark_rows(r: PlanRecord, vt: &[u64], mt: &[u64], ts: &[u64], view: &mut [u64])
+    requires { ⌜ Fit r (now vt) (now mt) (now ts) × (4320 ≤ length (now view)) ⌝ }
+    ensures { λ out. ⌜ now (view .exit) ≡ inTurn markedBy (systemIn r (now (vt .entry)) (now (mt .entry)) (now (ts .entry)) .tasks) (now (view .entry)) ⌝ }
+{
+    let e = r.tasks;
+    let mut a = 0;
+    while a < e {
+        mark_row(r, vt, mt, ts, a, view);
+        a += 1;
+    }
 }
 
 // Writes the view of the plan in the tables.
@@ -200,12 +239,6 @@ pub fn fill_view(r: PlanRecord, vt: &[u64], mt: &[u64], ts: &[u64], view: &mut [
     requires { ⌜ Fit r (now vt) (now mt) (now ts) × (4320 ≤ length (now view)) ⌝ }
     ensures { λ out. ⌜ take 4320 (now (view .exit)) ≡ viewOf (systemIn r (now (vt .entry)) (now (mt .entry)) (now (ts .entry))) ⌝ }
 {
-    let mut i = 0;
-    let mut k: u64 = 0;
-    while k < 4320 {
-        let x = view_cell(r, vt, mt, ts, k);
-        view[i] = x;
-        i += 1;
-        k += 1;
-    }
+    fill_blank(r, vt, mt, ts, view);
+    mark_rows(r, vt, mt, ts, view);
 }

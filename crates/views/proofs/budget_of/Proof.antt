@@ -7,7 +7,7 @@ use Rattle.laws.specs.Rows.{Lacking}
 use Rattle.laws.specs.SumLaws.{first-none}
 use Rattle.model.specs.Plan.{Vcpu}
 use Rattle.tables.specs.Layout.{vcpuRow}
-use Rattle.views.specs.FillLaws.{first-row}
+use Rattle.laws.specs.FirstLaws.{first-row}
 use borrow.Author.Needs.{needs}
 use borrow.Author.Tests.{eq-eqb, ne-eqb}
 use lib.Dec.{eqb}

@@ -1,38 +1,14 @@
--- `fill_view` meets its contract: the numbers before this one are the view's.
-use Prim.Native.Nat.{_-_}
-use Rattle.figures.specs.Tabled.{systemIn}
-use Rattle.views.specs.FillLaws.{Written, written-all, written-more, written-none}
+-- `fill_view` meets its contract.
+use Rattle.views.specs.SheetLaws.{marked-view}
 use borrow.Author.Needs.{needs}
-use lib.ListN.{length}
-use mathlib.Core.Path.{refl}
 use Rattle.views.proofs.fill_view.Statement.{statement}
 use Rattle.views.proofs.fill_view.Tie as tie
-
-abbrev Inv-loop : tie.InvT-loop
-Inv-loop r vt mt ts view₀ i₀ k₀ view i k = Written (systemIn r vt mt ts) (length view₀) view i k
-
-abbrev μ-loop : tie.MeasureT-loop
-μ-loop r vt mt ts view₀ i₀ k₀ view i k = 4320 - k
-
-loop-again : tie.Need-loop-again Inv-loop μ-loop
-loop-again c = let a = c .before in written-more (search needs) (a .before .loop .inv) (a .loop-test .taken) (c .view-cell .ensures)
-
-returns : tie.Need-returns Inv-loop μ-loop
-returns c = written-all (search needs) (c .before .loop .inv) (c .loop-test .left)
 
 pub fill-view-spec : {M : Type 1} → statement M
 fill-view-spec =
     tie.close
     (tie.spec
-    Inv-loop
-    μ-loop
-    (λ c. written-none refl)
+    (λ c κs. search needs)
     (λ c κs. search needs)
     (λ c. search needs)
-    (λ c. search needs)
-    (λ c. search needs)
-    (λ c. search needs)
-    (λ c. search needs)
-    loop-again
-    (λ c. search needs)
-    returns)
+    (λ c. marked-view (c .before .before .before .before .before .before .fill-blank .ensures) (c .before .before .mark-rows .ensures)))

@@ -1,5 +1,5 @@
 -- `view_cell` meets its contract: k says which part it is in, and which names it is of.
-use Rattle.views.specs.FillLaws.{budget-place, ceiling-place, overrun-place, owner-place, sheet-place, task-place}
+use Rattle.views.specs.FillLaws.{budget-place, ceiling-place, overrun-place, owner-place, task-place}
 use Rattle.views.specs.ViewOf.{bit}
 use borrow.Author.Needs.{needs}
 use mathlib.Core.Path.{_∙_, ap}
@@ -19,13 +19,7 @@ returns-4 : tie.Need-returns-4
 returns-4 c = c .ceiling-of .ensures .is ∙ ceiling-place _ _ (c .before .before .if3 .left) (c .before .if4 .taken)
 
 returns-5 : tie.Need-returns-5
-returns-5 c = c .bit-of .ensures ∙ ap bit (c .before .has-task .ensures) ∙ task-place _ _ (c .before .before .before .if4 .left) (c .before .before .if5 .taken)
-
-returns-6 : tie.Need-returns-6
-returns-6 c =
-    c .bit-of2 .ensures
-    ∙ ap bit (c .before .lists-it .ensures)
-    ∙ sheet-place _ _ (c .before .before .if5 .left) (c .before .before .before .before .before .before .before .before .before .before .pre .1)
+returns-5 c = c .bit-of .ensures ∙ ap bit (c .before .has-task .ensures) ∙ task-place _ _ (c .before .before .if4 .left) (c .before .before .before .before .before .before .before .before .before .pre .1)
 
 pub view-cell-spec : {M : Type 1} → statement M
 view-cell-spec =
@@ -47,10 +41,4 @@ view-cell-spec =
     (λ c. search needs)
     (λ c κs. search needs)
     (λ c κs. search needs)
-    returns-5
-    (λ c. search needs)
-    (λ c. search needs)
-    (λ c. search needs)
-    (λ c κs. search needs)
-    (λ c κs. search needs)
-    returns-6)
+    returns-5)

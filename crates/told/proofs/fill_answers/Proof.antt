@@ -1,8 +1,8 @@
 -- `fill_answers` meets its contract.
 use Rattle.told.specs.ReadLaws.{answers-in}
 use borrow.Author.Needs.{needs}
-use Rattle.lister.proofs.fill_answers.Statement.{statement}
-use Rattle.lister.proofs.fill_answers.Tie as tie
+use Rattle.told.proofs.fill_answers.Statement.{statement}
+use Rattle.told.proofs.fill_answers.Tie as tie
 
 pub fill-answers-spec : {M : Type 1} → statement M
 fill-answers-spec =
