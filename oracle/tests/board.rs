@@ -2,7 +2,7 @@
 
 mod common;
 
-use common::{plan, spaced, text, worked};
+use common::{plan, spaced, text, worked, ANSWERS};
 use oracle::board::{good, Board, Event, Reply};
 use oracle::events::{board_text, event, reply_text};
 use oracle::figures::overrun;
@@ -474,22 +474,7 @@ fn ledger_and_conditions_after_every_event() {
             }
         }
     }
-    for word in [
-        "granted",
-        "waits",
-        "freed",
-        "left",
-        "show",
-        "refused 1",
-        "refused 2",
-        "refused 3",
-        "refused 10",
-        "refused 11",
-        "refused 12",
-        "refused 13",
-        "refused 14",
-        "refused 15",
-    ] {
+    for word in ANSWERS {
         let seen = answers.get(word).copied().unwrap_or(0);
         assert!(seen > 50, "{} seen {} times", word, seen);
     }

@@ -4,6 +4,7 @@ mod common;
 
 use std::collections::BTreeMap;
 
+use common::ANSWERS;
 use oracle::events::board_text;
 use oracle::frames;
 use oracle::generate::{
@@ -328,23 +329,7 @@ fn the_gates_cases_reach_every_corner() {
         lists.add_answers(&plan, &case.events, &board_text(&plan, &case.events));
     }
     assert!(lists.lists == 500 && lists.accepted > 400, "{}", lists);
-    for answer in [
-        "granted",
-        "waits",
-        "freed",
-        "freed to nobody",
-        "left",
-        "show",
-        "refused 1",
-        "refused 2",
-        "refused 3",
-        "refused 10",
-        "refused 11",
-        "refused 12",
-        "refused 13",
-        "refused 14",
-        "refused 15",
-    ] {
+    for answer in ANSWERS.into_iter().chain(["freed to nobody"]) {
         let seen = lists.answers.get(answer).copied().unwrap_or(0);
         assert!(seen > 100, "{}: {}", answer, lists);
     }

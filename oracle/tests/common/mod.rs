@@ -32,3 +32,21 @@ pub fn worked(policy: &str) -> String {
         policy
     )
 }
+
+/// Each word of an event's answer, and each refusal by its number.
+pub const ANSWERS: [&str; 14] = [
+    "granted",
+    "waits",
+    "freed",
+    "left",
+    "show",
+    "refused 1",
+    "refused 2",
+    "refused 3",
+    "refused 10",
+    "refused 11",
+    "refused 12",
+    "refused 13",
+    "refused 14",
+    "refused 15",
+];
