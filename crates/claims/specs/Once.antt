@@ -23,7 +23,7 @@ use Rattle.lockboard.specs.declared.BoardAnswer.{BoardAnswer}
 use Rattle.lockboard.specs.Events.{boardText}
 use Rattle.boards.specs.Entered.{FreshBoard, freshFor, stepFor}
 use Rattle.sheets.specs.Sheet.{Task, tablesOf, sheetsAfter}
-use Rattle.sheets.specs.Replies.{Question, Reply, replyTo}
+use Rattle.sheets.specs.Replies.{Question, Replied, replyTo}
 use Rattle.exports.specs.Exported.{exported}
 
 -- an answer and what is left, two of each
@@ -79,7 +79,7 @@ module _ (r : PlanRecord) (t : Tables) where
   pub section-response-once : (v n i : ℕ) {a b : FigureAnswer} → a ≡ responseAsked r t v n i → b ≡ responseAsked r t v n i → a ≡ b
   section-response-once v n i = once
 
-  pub reply-once : (q : Question) {a b : Reply} → a ≡ replyTo r t q → b ≡ replyTo r t q → a ≡ b
+  pub reply-once : (q : Question) {a b : Replied} → a ≡ replyTo r t q → b ≡ replyTo r t q → a ≡ b
   reply-once q = once
 
   -- the listing into a lent buffer o (lister, sheets)

@@ -1,6 +1,7 @@
 -- What every function over records shares: a local of numbers is made, lent to `load` beside the records, and lent again to be read.
 -- Assumes nothing.
-use Rattle.sheets.proofs.Kit.{_≡_, ℕ, arith, [], _∷_, List, length, URA, fullShare, named, Val, SProp, ent, emp, exE, snd∗, GName, Lft, Share, Fml, ftrue, fsep, flft, Memory, Routine, Heap, Atoms, sem, Fun, fact, Given, ‵, _⊛_, ⋆, _$_, _∵_, !, qed, frame, done, join, u64, sliceVal, MutSlice, ShrSlice, nothing, Contract, ensured, lasts, tripleOf, says, RefT}
+use Rattle.sheets.proofs.Kit.{refl, _≡_, ℕ, arith, [], _∷_, List, length, URA, fullShare, named, Val, SProp, ent, emp, exE, snd∗, GName, Lft, Share, Fml, ftrue, fsep, flft, Memory, Routine, Heap, Atoms, sem, Fun, fact, Given, ‵, _⊛_, ⋆, _$_, _∵_, !, qed, frame, done, join, u64, sliceVal, MutSlice, ShrSlice, nothing, Contract, ensured, lasts, tripleOf, says, RefT, vint, w64, usize, Is, owned, uint-makes, lit<, fsplit, fjoin, move, drop}
+use Rattle.tables.specs.Layout.{Tables}
 use Rattle.sheets.specs.Sheet.{Task, noRows}
 use Rattle.sheets.proofs.Lent.{none-long}
 use Rattle.sheets.proofs.Task as T
@@ -20,6 +21,10 @@ Mut α l γ = MutSlice (named 1) α u64 .own (x l γ noRows) (s l noRows ∷ [])
 
 abbrev pub Shr : Lft → ℕ → GName → List ℕ → Fml
 Shr α l γ ys = ShrSlice (named 1) α u64 .own (x l γ ys) (s l ys ∷ [])
+
+-- the tables with these numbers for the tasks
+abbrev pub with′ : RefT (List ℕ) → RefT (List ℕ) → RefT (List ℕ) → List ℕ → Tables
+with′ vt mt ot u = record { vcpus = vt .now; mutexes = mt .now; opens = ot .now; tasks = u }
 
 -- the records
 abbrev pub tasks-val : RefT (List Task) → Val
@@ -41,7 +46,7 @@ module _ {M : Type 1} (𝓤 : URA M) (H : Heap 𝓤) (A : Atoms 𝓤) (mem : Mem
   to-none = ((tt, tt, tt, tt, tt), tt)
 
   abbrev pub to-load : Lft → Share → RefT (List Task) → Lft → ℕ → GName → Load .Ghost
-  to-load κ q ts α l γ = (((κ, (α, tt)), (q, (fullShare, tt)), tt, (ts, (x l γ noRows, tt)), (tasks-val ts ∷ [], (s l noRows ∷ [], tt))), tt)
+  to-load κ q ts α l γ = (((κ, (α, tt)), (q, (fullShare, tt)), tt, (ts, (x l γ noRows, (64, tt))), (tasks-val ts ∷ [], (s l noRows ∷ [], (vint w64 64 ∷ [], tt)))), tt)
 
   pub none-said : (a : List ℕ) → ent 𝓤 (ensured 𝓤 H A none.ended (none.clauses 𝓤 H A mem run) tt tt tt a) (fact 𝓤 (a ≡ noRows))
   none-said a = exE 𝓤 _ (λ ws. snd∗ 𝓤 (sem 𝓤 H A (lasts none.ended tt tt ws)) (fact 𝓤 (a ≡ noRows)))
@@ -52,4 +57,6 @@ module _ {M : Type 1} (𝓤 : URA M) (H : Heap 𝓤) (A : Atoms 𝓤) (mem : Mem
 
     pub goes-load : (κ : Lft) (q : Share) (ts : RefT (List Task)) (α : Lft) (l : ℕ) (γ : GName)
         → ent 𝓤 (⋆ 𝓤 H A ((‵ (flft κ q) ⊛ ‵ (flft α fullShare) ⊛ ‵ ftrue) ∷ ‵ (fsep (Own-tasks κ ts) (fsep (Mut α l γ) ftrue)) ∷ [])) (Load .pre (to-load κ q ts α l γ))
-    goes-load κ q ts α l γ = qed W ((‵ (flft κ q) ⊛ ‵ (flft α fullShare) ⊛ ‵ ftrue) ∷ ‵ (fsep (Own-tasks κ ts) (fsep (Mut α l γ) ftrue)) ∷ []) ∵ says ! (let k = none-long in omega arith) $ frame ! $ done !
+    goes-load κ q ts α l γ =
+        qed W ((‵ (flft κ q) ⊛ ‵ (flft α fullShare) ⊛ ‵ ftrue) ∷ ‵ (fsep (Own-tasks κ ts) (fsep (Mut α l γ) ftrue)) ∷ []) ∵ says ! (let k = none-long in omega arith) $ frame ! $ fsplit ! $ move ! (1 ∷ []) $ fsplit ! $ move ! (1 ∷ []) $ drop ! $
+        nothing ! $ owned ! usize (Is usize) (uint-makes 𝓤 H A W w64) 64 _ (refl, lit< tt) $ fjoin ! $ move ! (1 ∷ 0 ∷ []) $ fjoin ! $ move ! (1 ∷ 0 ∷ []) $ fjoin ! $ done !

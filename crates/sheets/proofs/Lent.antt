@@ -1,6 +1,6 @@
 -- A local that holds rows of numbers, as a row of numbers in memory: what is lent as a slice, and taken back. The rows that `load` leaves in it.
 -- Assumes nothing.
-use Rattle.sheets.proofs.Kit.{vint, guardI, Env, Item, _≡_, sym, subst, ℕ, [], _∷_, List, length, lit<, URA, fullShare, Ty, w64, tyInt, tyArray, Val, WT, hasTy, ent, sep, via, fsep, fat, froom, Heap, Atoms, sem, Given, ‵, _$_, _∵_, !, qed, by, use1, fjoin, fpack, arr-parts, part-room, RattleType, Is, cellAt, partOf, shares, u64, uint-lawful, Array, array-lawful, array-apart, array-whole, Room}
+use Rattle.sheets.proofs.Kit.{vint, guardI, Env, Item, _≡_, sym, subst, ℕ, [], _∷_, List, length, lit<, URA, fullShare, Ty, w64, tyInt, tyArray, Val, WT, hasTy, ent, sep, via, fsep, fat, froom, Heap, Atoms, sem, Given, ‵, _$_, _∵_, !, qed, by, use1, fjoin, fpack, arr-parts, part-room, RattleType, Is, cellAt, partOf, shares, u64, uint-lawful, Array, array-lawful, array-apart, array-whole, Room, Lft, Fml, named, sliceVal, ShrSlice, MutSlice, RefT, sliceTy, tyRef, erased, mut, imm}
 use lib.Dec.{T as Holds}
 use mir.Syntax.{Width, intBig}
 use mir.Val.{Fits}
@@ -13,12 +13,29 @@ use Rattle.sheets.specs.SheetLaws.{loaded-long, rows-long}
 pub big-lit : {M : Type 1} {𝓤 : URA M} {H : Heap 𝓤} {A : Atoms 𝓤} {K : Type 0} {W : Given 𝓤 H A} {Γ : List (Item 𝓤)} {E : Env 𝓤 H} → K → {w : Width} {n : ℕ} → Fits w n → Opd K W Γ E (intBig w n) (vint w n)
 big-lit {𝓤 = 𝓤} t {w} {n} z = record { go = λ Kt h. via 𝓤 (Kt (vint w n)) h (guardI 𝓤 (Fits w n) (Kt (vint w n)) z) }
 
+-- a lent slice of numbers: its machine value, and what is owned of it under a lifetime, to be read and to be written
+abbrev pub val : RefT (List ℕ) → Val
+val t = sliceVal (t .ptr) (length (t .now))
+
+abbrev pub ToRead : ℕ → Lft → RefT (List ℕ) → Fml
+ToRead n κ t = ShrSlice (named n) κ u64 .own t (val t ∷ [])
+
+abbrev pub ToWrite : ℕ → Lft → RefT (List ℕ) → Fml
+ToWrite n κ t = MutSlice (named n) κ u64 .own t (val t ∷ [])
+
 -- the local's type
 abbrev pub R : RattleType
 R = Array u64 1856
 
 abbrev pub rows : Ty
 rows = tyArray (tyInt w64) 1856
+
+-- it is lent to be written, and to be read
+abbrev pub lent : Ty
+lent = sliceTy (tyRef erased mut (tyInt w64))
+
+abbrev pub shared : Ty
+shared = sliceTy (tyRef erased imm (tyInt w64))
 
 pub room : Room u64 1856
 room = (lit< tt, lit< tt)

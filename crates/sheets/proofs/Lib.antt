@@ -3,3 +3,4 @@ pub mod Lent
 pub mod Face
 pub mod Both
 pub mod LentTasks
+pub mod Counted

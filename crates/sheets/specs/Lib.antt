@@ -1,6 +1,7 @@
 pub mod Sheet
 pub mod SheetLaws
 pub mod CutLaws
+pub mod Replies
 pub mod FaceLaws
 pub mod SaveLaws
 pub mod ReadLaws

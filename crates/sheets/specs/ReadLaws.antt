@@ -127,7 +127,7 @@ module _ (s vt mt ot : List ℕ) (ks : List Task) (u : List ℕ) (long : length 
       (λ x l. sym (saved-none ks (u ++ w)) ∙ saved-none ks (sheetRows ks))
       (λ p h. ap (λ b. saved ks (left p nums b .tasks ++ w) (countOf (told p b))) (room-same p h) ∙ sheet-pick w p h (roomy (recordOf p) recs))
 
-  count-few : countOf (planAnswer s recs) ≤ maxTasks
+  pub count-few : countOf (planAnswer s recs) ≤ maxTasks
   unfolding planAnswer
   count-few = by-reading (λ r. countOf (answerInto r recs) ≤ maxTasks) (λ x l. omega arith) (λ p h. go p h (roomy (recordOf p) recs))
     where
@@ -194,7 +194,7 @@ nums-back : (t : List ℕ) (i : ℕ) → taskNums (taskOf t i) ≡ rows taskWidt
 unfolding taskNums locksTo taskOf lockOf flat rows
 nums-back t i = refl
 
-sheet-drop : (n : ℕ) (ks : List Task) → n ≤ length ks → drop (n * taskWidth) (sheetRows ks) ≡ sheetRows (drop n ks)
+pub sheet-drop : (n : ℕ) (ks : List Task) → n ≤ length ks → drop (n * taskWidth) (sheetRows ks) ≡ sheetRows (drop n ks)
 unfolding sheetRows
 sheet-drop n ks l =
     let e : flat taskNums ks ≡ flat taskNums (take n ks) ++ flat taskNums (drop n ks) =

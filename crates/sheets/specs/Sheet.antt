@@ -46,7 +46,7 @@ cutTo n ks = take n ks
 abbrev pub tablesOf : List ℕ → List ℕ → List ℕ → List Task → Tables
 tablesOf vt mt ot ks = record { vcpus = vt; mutexes = mt; opens = ot; tasks = sheetRows ks }
 
--- room for the numbers of as many records as a plan has
+-- room for the numbers of as many records as a plan has at most
 unfoldable pub noRows : List ℕ
 noRows = replicate (maxTasks * taskWidth) 0
 

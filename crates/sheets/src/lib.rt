@@ -4,7 +4,6 @@ use entries::FigureAnswer;
 use entries::RowAnswer;
 use entries::TaskRowAnswer;
 use lockboard::Board;
-use lockboard::BoardAnswer;
 use lockboard::Event;
 use lockboard::Outcome;
 use reader::PlanAnswer;
@@ -16,13 +15,11 @@ ghost use Prim.Native.Nat.{_+_, _*_, _<_, _≤_, min};
 ghost use lib.ListN.{length, getD, take, drop};
 ghost use lib.Seq.{sets};
 ghost use Rattle.tables.specs.Layout.{over};
-ghost use Rattle.tables.specs.Given.{isGiven};
-ghost use Rattle.entries.specs.Asked.{vcpuAsked, waitAsked, taskAsked, responseAsked};
-ghost use Rattle.lockboard.specs.declared.Event as Event;
 ghost use Rattle.boards.specs.Entered.{freshFor, stepFor};
 ghost use Rattle.reader.specs.Into.{planAnswer, tablesAfter};
 ghost use Rattle.lister.specs.Asked.{listingAsked, listingLeft};
 ghost use Rattle.sheets.specs.Blank.{noTasks};
+ghost use Rattle.sheets.specs.Replies.{replyTo};
 ghost use Rattle.sheets.specs.Sheet.{noTask, taskNums, sheetRows, cutTo, tablesOf, noRows, lockOf, taskOf, saved, countOf, sheetsAfter};
 
 // A lock of a task: its mutex, the ticks under it, the run after it.
@@ -42,6 +39,23 @@ pub struct Task {
     pub locks: [Lock; 8],
 }
 
+// What may be asked of lent tables: the test for 9, how late a VCPU can finish, how long task (v, n) can wait at a lock place, how late it can finish, and the response of its global section at a lock place.
+pub enum Question {
+    IsGiven,
+    VcpuTime { v: u64 },
+    WaitTime { v: u64, n: u64, place: u64 },
+    TaskTime { v: u64, n: u64 },
+    SectionResponse { v: u64, n: u64, place: u64 },
+}
+
+// What is replied.
+pub enum Replied {
+    Given(bool),
+    Row(RowAnswer),
+    TaskRow(TaskRowAnswer),
+    Figure(FigureAnswer),
+}
+
 // Room for the numbers of 64 records, all 0.
 fn no_rows() -> [u64; 1856]
     ensures { λ r. ⌜ r ≡ noRows ⌝ }
@@ -54,6 +68,14 @@ fn few(n: usize) -> usize
     ensures { λ r. ⌜ r ≡ min n 64 ⌝ }
 {
     if n < 64 { n } else { 64 }
+}
+
+// The least of a, n and 64.
+fn few_of(a: usize, n: usize) -> usize
+    ensures { λ r. ⌜ r ≡ min a (min n 64) ⌝ }
+{
+    let k = few(n);
+    if a < k { a } else { k }
 }
 
 // How many numbers n records have.
@@ -109,173 +131,75 @@ fn task_at(tasks: &[Task], i: usize) -> Task
     tasks[i]
 }
 
-// Copies the first 64 records into rows of numbers, and returns how many numbers they have.
-fn load(tasks: &[Task], rows: &mut [u64]) -> usize
+// Copies the first n records, and no more than 64, into rows of numbers, and returns how many numbers they have.
+fn load(tasks: &[Task], rows: &mut [u64], n: usize) -> usize
     requires { ⌜ 1856 ≤ length (now rows) ⌝ }
-    ensures { λ r. ⌜ (r ≡ length (sheetRows (cutTo 64 (now (tasks .entry))))) × (now (rows .exit) ≡ over (sheetRows (cutTo 64 (now (tasks .entry)))) (now (rows .entry))) ⌝ }
+    ensures { λ r. ⌜ (r ≡ length (sheetRows (cutTo (min n 64) (now (tasks .entry))))) × (now (rows .exit) ≡ over (sheetRows (cutTo (min n 64) (now (tasks .entry)))) (now (rows .entry))) ⌝ }
 {
-    let n = few(tasks.len());
+    let k = few_of(tasks.len(), n);
     let mut i: usize = 0;
-    while i < n {
+    while i < k {
         put_row(rows, i, task_at(tasks, i));
         i += 1;
     }
-    width(n)
+    width(k)
 }
 
-// The test for 9 on the first c numbers of the rows.
-fn given_in(r: PlanRecord, vt: &[u64], mt: &[u64], ot: &[u64], rows: &[u64], c: usize) -> bool
-    requires { ⌜ c ≤ length (now rows) ⌝ }
-    ensures { λ a. ⌜ a ≡ isGiven r (record { vcpus = now (vt .entry); mutexes = now (mt .entry); opens = now (ot .entry); tasks = take c (now (rows .entry)) }) ⌝ }
+// The reply, on rows of numbers.
+fn reply_on(r: PlanRecord, vt: &[u64], mt: &[u64], ot: &[u64], ts: &[u64], q: Question) -> Replied
+    ensures { λ a. ⌜ a ≡ replyTo r (record { vcpus = now (vt .entry); mutexes = now (mt .entry); opens = now (ot .entry); tasks = now (ts .entry) }) q ⌝ }
 {
-    given::is_given(r, vt, mt, ot, &rows[..c])
+    match q {
+        Question::IsGiven => Replied::Given(given::is_given(r, vt, mt, ot, ts)),
+        Question::VcpuTime { v } => Replied::Row(entries::vcpu_time(r, vt, mt, ot, ts, v)),
+        Question::WaitTime { v, n, place } => {
+            Replied::Row(entries::wait_time(r, vt, mt, ot, ts, v, n, place))
+        }
+        Question::TaskTime { v, n } => Replied::TaskRow(entries::task_time(
+            r,
+            vt,
+            mt,
+            ot,
+            ts,
+            v,
+            n,
+        )),
+        Question::SectionResponse { v, n, place } => {
+            Replied::Figure(entries::section_response(r, vt, mt, ot, ts, v, n, place))
+        }
+    }
 }
 
-// The test for 9: does some accepted plan give these tables with this record?
-pub fn is_given(r: PlanRecord, vt: &[u64], mt: &[u64], ot: &[u64], tasks: &[Task]) -> bool
-    ensures { λ a. ⌜ a ≡ isGiven r (tablesOf (now (vt .entry)) (now (mt .entry)) (now (ot .entry)) (now (tasks .entry))) ⌝ }
-{
-    let mut rows = no_rows();
-    let c = load(tasks, &mut rows);
-    given_in(r, vt, mt, ot, &rows, c)
-}
-
-// How late VCPU v can finish, on the first c numbers of the rows.
-fn vcpu_in(
+// The reply, on the first c numbers of the rows.
+fn reply_in(
     r: PlanRecord,
     vt: &[u64],
     mt: &[u64],
     ot: &[u64],
     rows: &[u64],
-    v: u64,
+    q: Question,
     c: usize,
-) -> RowAnswer
+) -> Replied
     requires { ⌜ c ≤ length (now rows) ⌝ }
-    ensures { λ a. ⌜ a ≡ vcpuAsked r (record { vcpus = now (vt .entry); mutexes = now (mt .entry); opens = now (ot .entry); tasks = take c (now (rows .entry)) }) v ⌝ }
+    ensures { λ a. ⌜ a ≡ replyTo r (record { vcpus = now (vt .entry); mutexes = now (mt .entry); opens = now (ot .entry); tasks = take c (now (rows .entry)) }) q ⌝ }
 {
-    entries::vcpu_time(r, vt, mt, ot, &rows[..c], v)
+    reply_on(r, vt, mt, ot, &rows[..c], q)
 }
 
-// How late VCPU v can finish.
-pub fn vcpu_time(
+// Replies to a question about the plan in lent tables.
+pub fn reply(
     r: PlanRecord,
     vt: &[u64],
     mt: &[u64],
     ot: &[u64],
     tasks: &[Task],
-    v: u64,
-) -> RowAnswer
-    ensures { λ a. ⌜ a ≡ vcpuAsked r (tablesOf (now (vt .entry)) (now (mt .entry)) (now (ot .entry)) (now (tasks .entry))) v ⌝ }
+    q: Question,
+) -> Replied
+    ensures { λ a. ⌜ a ≡ replyTo r (tablesOf (now (vt .entry)) (now (mt .entry)) (now (ot .entry)) (now (tasks .entry))) q ⌝ }
 {
     let mut rows = no_rows();
-    let c = load(tasks, &mut rows);
-    vcpu_in(r, vt, mt, ot, &rows, v, c)
-}
-
-// How long task (v, n) can wait at its lock place i, on the first c numbers of the rows.
-fn wait_in(
-    r: PlanRecord,
-    vt: &[u64],
-    mt: &[u64],
-    ot: &[u64],
-    rows: &[u64],
-    v: u64,
-    n: u64,
-    i: u64,
-    c: usize,
-) -> RowAnswer
-    requires { ⌜ c ≤ length (now rows) ⌝ }
-    ensures { λ a. ⌜ a ≡ waitAsked r (record { vcpus = now (vt .entry); mutexes = now (mt .entry); opens = now (ot .entry); tasks = take c (now (rows .entry)) }) v n i ⌝ }
-{
-    entries::wait_time(r, vt, mt, ot, &rows[..c], v, n, i)
-}
-
-// How long task (v, n) can wait at its lock place i.
-pub fn wait_time(
-    r: PlanRecord,
-    vt: &[u64],
-    mt: &[u64],
-    ot: &[u64],
-    tasks: &[Task],
-    v: u64,
-    n: u64,
-    i: u64,
-) -> RowAnswer
-    ensures { λ a. ⌜ a ≡ waitAsked r (tablesOf (now (vt .entry)) (now (mt .entry)) (now (ot .entry)) (now (tasks .entry))) v n i ⌝ }
-{
-    let mut rows = no_rows();
-    let c = load(tasks, &mut rows);
-    wait_in(r, vt, mt, ot, &rows, v, n, i, c)
-}
-
-// How late task (v, n) can finish, on the first c numbers of the rows.
-fn task_in(
-    r: PlanRecord,
-    vt: &[u64],
-    mt: &[u64],
-    ot: &[u64],
-    rows: &[u64],
-    v: u64,
-    n: u64,
-    c: usize,
-) -> TaskRowAnswer
-    requires { ⌜ c ≤ length (now rows) ⌝ }
-    ensures { λ a. ⌜ a ≡ taskAsked r (record { vcpus = now (vt .entry); mutexes = now (mt .entry); opens = now (ot .entry); tasks = take c (now (rows .entry)) }) v n ⌝ }
-{
-    entries::task_time(r, vt, mt, ot, &rows[..c], v, n)
-}
-
-// How late task (v, n) can finish.
-pub fn task_time(
-    r: PlanRecord,
-    vt: &[u64],
-    mt: &[u64],
-    ot: &[u64],
-    tasks: &[Task],
-    v: u64,
-    n: u64,
-) -> TaskRowAnswer
-    ensures { λ a. ⌜ a ≡ taskAsked r (tablesOf (now (vt .entry)) (now (mt .entry)) (now (ot .entry)) (now (tasks .entry))) v n ⌝ }
-{
-    let mut rows = no_rows();
-    let c = load(tasks, &mut rows);
-    task_in(r, vt, mt, ot, &rows, v, n, c)
-}
-
-// The response of task (v, n) at its lock place i, on the first c numbers of the rows.
-fn response_in(
-    r: PlanRecord,
-    vt: &[u64],
-    mt: &[u64],
-    ot: &[u64],
-    rows: &[u64],
-    v: u64,
-    n: u64,
-    i: u64,
-    c: usize,
-) -> FigureAnswer
-    requires { ⌜ c ≤ length (now rows) ⌝ }
-    ensures { λ a. ⌜ a ≡ responseAsked r (record { vcpus = now (vt .entry); mutexes = now (mt .entry); opens = now (ot .entry); tasks = take c (now (rows .entry)) }) v n i ⌝ }
-{
-    entries::section_response(r, vt, mt, ot, &rows[..c], v, n, i)
-}
-
-// The response of the global section of task (v, n) at its lock place i.
-pub fn section_response(
-    r: PlanRecord,
-    vt: &[u64],
-    mt: &[u64],
-    ot: &[u64],
-    tasks: &[Task],
-    v: u64,
-    n: u64,
-    i: u64,
-) -> FigureAnswer
-    ensures { λ a. ⌜ a ≡ responseAsked r (tablesOf (now (vt .entry)) (now (mt .entry)) (now (ot .entry)) (now (tasks .entry))) v n i ⌝ }
-{
-    let mut rows = no_rows();
-    let c = load(tasks, &mut rows);
-    response_in(r, vt, mt, ot, &rows, v, n, i, c)
+    let c = load(tasks, &mut rows, 64);
+    reply_in(r, vt, mt, ot, &rows, q, c)
 }
 
 // The board at first, on the first c numbers of the rows.
@@ -291,7 +215,7 @@ pub fn fresh(r: PlanRecord, vt: &[u64], mt: &[u64], ot: &[u64], tasks: &[Task]) 
     ensures { λ a. ⌜ a ≡ freshFor r (tablesOf (now (vt .entry)) (now (mt .entry)) (now (ot .entry)) (now (tasks .entry))) ⌝ }
 {
     let mut rows = no_rows();
-    let c = load(tasks, &mut rows);
+    let c = load(tasks, &mut rows, 64);
     fresh_in(r, vt, mt, ot, &rows, c)
 }
 
@@ -325,190 +249,8 @@ pub fn step(
     ensures { λ a. ⌜ a ≡ stepFor r (tablesOf (now (vt .entry)) (now (mt .entry)) (now (ot .entry)) (now (tasks .entry))) b e ⌝ }
 {
     let mut rows = no_rows();
-    let c = load(tasks, &mut rows);
+    let c = load(tasks, &mut rows, 64);
     step_in(b, r, vt, mt, ot, &rows, e, c)
-}
-
-// `ask v n m`, on the first c numbers of the rows.
-fn ask_in(
-    b: Board,
-    r: PlanRecord,
-    vt: &[u64],
-    mt: &[u64],
-    ot: &[u64],
-    rows: &[u64],
-    v: u64,
-    n: u64,
-    m: u64,
-    c: usize,
-) -> Outcome
-    requires { ⌜ c ≤ length (now rows) ⌝ }
-    ensures { λ a. ⌜ a ≡ stepFor r (record { vcpus = now (vt .entry); mutexes = now (mt .entry); opens = now (ot .entry); tasks = take c (now (rows .entry)) }) b (Event.Ask v n m) ⌝ }
-{
-    boards::ask(b, r, vt, mt, ot, &rows[..c], v, n, m)
-}
-
-// `ask v n m`
-pub fn ask(
-    b: Board,
-    r: PlanRecord,
-    vt: &[u64],
-    mt: &[u64],
-    ot: &[u64],
-    tasks: &[Task],
-    v: u64,
-    n: u64,
-    m: u64,
-) -> Outcome
-    ensures { λ a. ⌜ a ≡ stepFor r (tablesOf (now (vt .entry)) (now (mt .entry)) (now (ot .entry)) (now (tasks .entry))) b (Event.Ask v n m) ⌝ }
-{
-    let mut rows = no_rows();
-    let c = load(tasks, &mut rows);
-    ask_in(b, r, vt, mt, ot, &rows, v, n, m, c)
-}
-
-// `free v n m`, on the first c numbers of the rows.
-fn free_in(
-    b: Board,
-    r: PlanRecord,
-    vt: &[u64],
-    mt: &[u64],
-    ot: &[u64],
-    rows: &[u64],
-    v: u64,
-    n: u64,
-    m: u64,
-    c: usize,
-) -> Outcome
-    requires { ⌜ c ≤ length (now rows) ⌝ }
-    ensures { λ a. ⌜ a ≡ stepFor r (record { vcpus = now (vt .entry); mutexes = now (mt .entry); opens = now (ot .entry); tasks = take c (now (rows .entry)) }) b (Event.Free v n m) ⌝ }
-{
-    boards::free(b, r, vt, mt, ot, &rows[..c], v, n, m)
-}
-
-// `free v n m`
-pub fn free(
-    b: Board,
-    r: PlanRecord,
-    vt: &[u64],
-    mt: &[u64],
-    ot: &[u64],
-    tasks: &[Task],
-    v: u64,
-    n: u64,
-    m: u64,
-) -> Outcome
-    ensures { λ a. ⌜ a ≡ stepFor r (tablesOf (now (vt .entry)) (now (mt .entry)) (now (ot .entry)) (now (tasks .entry))) b (Event.Free v n m) ⌝ }
-{
-    let mut rows = no_rows();
-    let c = load(tasks, &mut rows);
-    free_in(b, r, vt, mt, ot, &rows, v, n, m, c)
-}
-
-// `use v t`, on the first c numbers of the rows.
-fn use_in(
-    b: Board,
-    r: PlanRecord,
-    vt: &[u64],
-    mt: &[u64],
-    ot: &[u64],
-    rows: &[u64],
-    v: u64,
-    t: u64,
-    c: usize,
-) -> Outcome
-    requires { ⌜ c ≤ length (now rows) ⌝ }
-    ensures { λ a. ⌜ a ≡ stepFor r (record { vcpus = now (vt .entry); mutexes = now (mt .entry); opens = now (ot .entry); tasks = take c (now (rows .entry)) }) b (Event.Use v t) ⌝ }
-{
-    boards::use_ticks(b, r, vt, mt, ot, &rows[..c], v, t)
-}
-
-// `use v t` (the language keeps the word)
-pub fn use_ticks(
-    b: Board,
-    r: PlanRecord,
-    vt: &[u64],
-    mt: &[u64],
-    ot: &[u64],
-    tasks: &[Task],
-    v: u64,
-    t: u64,
-) -> Outcome
-    ensures { λ a. ⌜ a ≡ stepFor r (tablesOf (now (vt .entry)) (now (mt .entry)) (now (ot .entry)) (now (tasks .entry))) b (Event.Use v t) ⌝ }
-{
-    let mut rows = no_rows();
-    let c = load(tasks, &mut rows);
-    use_in(b, r, vt, mt, ot, &rows, v, t, c)
-}
-
-// `top v`, on the first c numbers of the rows.
-fn top_in(
-    b: Board,
-    r: PlanRecord,
-    vt: &[u64],
-    mt: &[u64],
-    ot: &[u64],
-    rows: &[u64],
-    v: u64,
-    c: usize,
-) -> Outcome
-    requires { ⌜ c ≤ length (now rows) ⌝ }
-    ensures { λ a. ⌜ a ≡ stepFor r (record { vcpus = now (vt .entry); mutexes = now (mt .entry); opens = now (ot .entry); tasks = take c (now (rows .entry)) }) b (Event.Top v) ⌝ }
-{
-    boards::top(b, r, vt, mt, ot, &rows[..c], v)
-}
-
-// `top v`
-pub fn top(
-    b: Board,
-    r: PlanRecord,
-    vt: &[u64],
-    mt: &[u64],
-    ot: &[u64],
-    tasks: &[Task],
-    v: u64,
-) -> Outcome
-    ensures { λ a. ⌜ a ≡ stepFor r (tablesOf (now (vt .entry)) (now (mt .entry)) (now (ot .entry)) (now (tasks .entry))) b (Event.Top v) ⌝ }
-{
-    let mut rows = no_rows();
-    let c = load(tasks, &mut rows);
-    top_in(b, r, vt, mt, ot, &rows, v, c)
-}
-
-// `show v n`, on the first c numbers of the rows.
-fn show_in(
-    b: Board,
-    r: PlanRecord,
-    vt: &[u64],
-    mt: &[u64],
-    ot: &[u64],
-    rows: &[u64],
-    v: u64,
-    n: u64,
-    c: usize,
-) -> BoardAnswer
-    requires { ⌜ c ≤ length (now rows) ⌝ }
-    ensures { λ a. ⌜ a ≡ stepFor r (record { vcpus = now (vt .entry); mutexes = now (mt .entry); opens = now (ot .entry); tasks = take c (now (rows .entry)) }) b (Event.Show v n) .answer ⌝ }
-{
-    boards::show(b, r, vt, mt, ot, &rows[..c], v, n)
-}
-
-// `show v n`, which only reads the board
-pub fn show(
-    b: Board,
-    r: PlanRecord,
-    vt: &[u64],
-    mt: &[u64],
-    ot: &[u64],
-    tasks: &[Task],
-    v: u64,
-    n: u64,
-) -> BoardAnswer
-    ensures { λ a. ⌜ a ≡ stepFor r (tablesOf (now (vt .entry)) (now (mt .entry)) (now (ot .entry)) (now (tasks .entry))) b (Event.Show v n) .answer ⌝ }
-{
-    let mut rows = no_rows();
-    let c = load(tasks, &mut rows);
-    show_in(b, r, vt, mt, ot, &rows, v, n, c)
 }
 
 // The listing into a lent buffer, on the first c numbers of the rows.
@@ -541,7 +283,7 @@ pub fn write_listing(
     ensures { λ a. ⌜ now (out .exit) ≡ listingLeft r (tablesOf (now (vt .entry)) (now (mt .entry)) (now (ot .entry)) (now (tasks .entry))) (now (out .entry)) ⌝ }
 {
     let mut rows = no_rows();
-    let c = load(tasks, &mut rows);
+    let c = load(tasks, &mut rows, 64);
     listing_in(r, vt, mt, ot, &rows, out, c)
 }
 
@@ -665,7 +407,7 @@ fn no_tasks() -> [Task; 64]
     [t; 64]
 }
 
-// Reads bytes offered as a plan into a table of 64 records, and copies the records into lent rows of numbers.
+// Reads bytes offered as a plan into a table of 64 records, and copies the records of its tasks into lent rows of numbers, all 0.
 pub fn read_rows(
     src: &[u8],
     vt: &mut [u64],
@@ -673,7 +415,7 @@ pub fn read_rows(
     ot: &mut [u64],
     rows: &mut [u64],
 ) -> PlanAnswer
-    requires { ⌜ length (now rows) ≡ 1856 ⌝ }
+    requires { ⌜ now rows ≡ noRows ⌝ }
     ensures { λ a. ⌜ (a ≡ planAnswer (now (src .entry)) (tablesOf (now (vt .entry)) (now (mt .entry)) (now (ot .entry)) noTasks))
         × ((now (vt .exit) ≡ tablesAfter (now (src .entry)) (tablesOf (now (vt .entry)) (now (mt .entry)) (now (ot .entry)) noTasks) .vcpus)
         × ((now (mt .exit) ≡ tablesAfter (now (src .entry)) (tablesOf (now (vt .entry)) (now (mt .entry)) (now (ot .entry)) noTasks) .mutexes)
@@ -682,6 +424,7 @@ pub fn read_rows(
 {
     let mut tasks = no_tasks();
     let a = read_plan(src, vt, mt, ot, &mut tasks);
-    load(&tasks, rows);
+    let n = count_of(a);
+    load(&tasks, rows, n);
     a
 }

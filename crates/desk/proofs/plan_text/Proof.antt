@@ -1,10 +1,16 @@
 -- `plan_text` meets its contract.
+use mathlib.Core.Path.{refl}
 use native.Mathlib.Omega.{arith}
 use borrow.Author.Needs.{needs}
+use Rattle.sheets.specs.Sheet.{noRows}
 use Rattle.sheets.specs.Blank.{blank-long}
 use Rattle.desk.specs.Told.{left-sure, left-verdict}
 use Rattle.desk.proofs.plan_text.Statement.{statement}
 use Rattle.desk.proofs.plan_text.Tie as tie
+
+zero : tie.Need-read-rows-requires
+unfolding noRows
+zero c κs = refl
 
 sure : tie.Need-listing-or-requires
 sure c κs =
@@ -28,7 +34,7 @@ plan-text-spec =
     (λ c. search needs)
     (λ c. search needs)
     (λ c. search needs)
-    (λ c κs. search needs)
+    zero
     (λ c. search needs)
     (λ c. search needs)
     (λ c. search needs)

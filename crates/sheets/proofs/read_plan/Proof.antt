@@ -1,7 +1,7 @@
 -- `sheets::read_plan` meets its contract: a walk of its MIR, by hand. A local of numbers is lent as a `&mut [u64]` to `read_in`, which is covered, beside the input and the tables, taken back, and lent as a `&[u64]` to `save`. All that the proof knows of each callee is that it meets its contract.
 -- Each table's borrow goes to its callee at its own lifetime, share and ghost name, and is given up for good (`gave-slice`). For each loan of the local a lifetime is made, and ended after the call.
 -- Assumes nothing.
-use Rattle.sheets.proofs.Kit.{refl, sym, subst, _≡_, _∙_, ℕ, _≤_, [], _∷_, List, length, URA, named, w64, Ty, imm, tyInt, tyRef, mut, erased, Val, vint, SProp, ent, emp, via, fst∗, id⊢, exE, snd∗, GName, Lft, Share, ftrue, flft, fat, fsep, Fml, froom, flent, Memory, Routine, Heap, Calls, Loops, WpFn, Tables, Atoms, sem, Fun, fact, givenOf, tables, tablesOf, Given, ‵, _⊛_, ⋆, _$_, _∵_, !, qed, by, move, suffices, frame, done, split, join, rewrite, fsplit, fjoin, drop, feqI, raw, some, later, use0, use1, use2, pick, await, use3, feqL, look, init, forget, stop, fld, from, of-opd, assigns, returns, enter, alloc1, alloc0, params1, pass1, pass0, free1, free0, hop, and-then, no-more, land, addr, whole, sub, look-in, agg, WpFn-mono, FmC, fmOf, owns, Is, shows, uint-makes, uint-lawful, Nothing, nothing-lawful, usize, u64, u8, sliceVal, ShrSlice, Room, slice-vals, shr-slice-tells, MutSlice, mut-slice-tells, sliceTy, shr-slice-copy, finally, plain, owned, nothing, peeks, heard, Vals, onEntry, Meets, tripleOf, entered, cited, says, Stays, stay-none-slice, walkOf, goes-none-slice, Walks, ends-at, walked, walk-meets, gave-slice, goes-gave-slice, yes, RefT, arith, fullShare, row, whole-in, whole-out, Held, lends-slice, slice-back, lends-shr-slice, lit<, shares, Contract, Triple, calls-at, ensured, lasts, lft-new, lft-end, lent-back, cells, Arr, arr-parts, Lfts}
+use Rattle.sheets.proofs.Kit.{refl, sym, subst, _≡_, _∙_, ℕ, _≤_, [], _∷_, List, length, URA, named, w64, mut, Val, vint, SProp, ent, emp, via, fst∗, id⊢, GName, Lft, Share, ftrue, flft, fat, fsep, Fml, froom, flent, Memory, Routine, Heap, Calls, Loops, WpFn, Tables, Atoms, Fun, fact, givenOf, tables, tablesOf, Given, ‵, _⊛_, ⋆, _$_, _∵_, !, qed, by, move, suffices, frame, done, split, join, rewrite, fsplit, fjoin, drop, feqI, raw, some, later, use0, use1, use2, pick, await, use3, feqL, look, init, forget, stop, fld, from, of-opd, assigns, returns, enter, alloc1, alloc0, params1, pass1, pass0, free1, free0, hop, and-then, no-more, land, addr, whole, sub, look-in, agg, WpFn-mono, FmC, fmOf, owns, Is, shows, uint-makes, uint-lawful, Nothing, nothing-lawful, usize, u64, u8, sliceVal, ShrSlice, Room, slice-vals, shr-slice-tells, MutSlice, mut-slice-tells, shr-slice-copy, finally, plain, owned, nothing, peeks, heard, Vals, onEntry, Meets, tripleOf, entered, cited, says, Stays, stay-none-slice, walkOf, goes-none-slice, Walks, ends-at, walked, walk-meets, gave-slice, goes-gave-slice, yes, RefT, arith, fullShare, row, whole-in, whole-out, Held, lends-slice, slice-back, lends-shr-slice, lit<, shares, Contract, Triple, calls-at, ensured, lasts, lft-new, lft-end, lent-back, cells, Arr, arr-parts, Lfts}
 use types.Run.{load as read}
 use denote.Memory.{mem as inMem}
 use denote.Enum.Laws as EL
@@ -10,7 +10,8 @@ use Rattle.reader.proofs.PlanAnswer as E
 use Rattle.reader.proofs.PlanAnswer.Laws as E′
 use Rattle.sheets.specs.Sheet.{Task, noRows, saved, countOf}
 use Rattle.sheets.specs.ReadLaws.{ReadIn, ReadOut, read-count, read-all}
-use Rattle.sheets.proofs.Lent.{big-lit, R, rows, room, none-long, none-room, rows-typed, to-row, to-room}
+use Rattle.sheets.proofs.Lent.{val, ToWrite, lent, shared, big-lit, R, rows, room, none-long, none-room, rows-typed, to-row, to-room}
+use Rattle.sheets.proofs.Counted.{Count, to-count, goes-count, count-said}
 use Rattle.sheets.proofs.Task as T
 use Rattle.sheets.proofs.Face.{x, s, Mut, Shr, None, to-none, goes-none as goes-no-rows, none-said}
 use Rattle.sheets.proofs.no_rows as none
@@ -37,19 +38,10 @@ use Rattle.sheets.proofs.read_plan.Code as code
 abbrev stayed : Stays (f.ended .signature .params) (f.ended .kept)
 stayed = (stay-none-slice (0 ∷ []) tt (plain (λ _. u8)) yes, (gave-slice (1 ∷ []) tt (plain (λ _. u64)), (gave-slice (2 ∷ []) tt (plain (λ _. u64)), (gave-slice (3 ∷ []) tt (plain (λ _. u64)), (gave-slice (4 ∷ []) tt (plain (λ _. T.the-row)), tt)))))
 
-abbrev lent : Ty
-lent = sliceTy (tyRef erased mut (tyInt w64))
-
-abbrev shared : Ty
-shared = sliceTy (tyRef erased imm (tyInt w64))
-
 module _ {M : Type 1} (𝓤 : URA M) (H : Heap 𝓤) (A : Atoms 𝓤) (mem : Memory → SProp 𝓤) (run : Routine → Fun 𝓤) where
   -- the contracts that the proof cites
   abbrev Reads : Contract 𝓤
   Reads = tripleOf 𝓤 H A reads.signature (reads.spec 𝓤 H A mem run)
-
-  abbrev Count : Contract 𝓤
-  Count = tripleOf 𝓤 H A count.signature (count.spec 𝓤 H A mem run)
 
   abbrev Save : Contract 𝓤
   Save = tripleOf 𝓤 H A save.signature (save.spec 𝓤 H A mem run)
@@ -61,29 +53,8 @@ module _ {M : Type 1} (𝓤 : URA M) (H : Heap 𝓤) (A : Atoms 𝓤) (W : Given
   abbrev ks : List Task
   ks = tasks .now
 
-  abbrev src-val : Val
-  src-val = sliceVal (src .ptr) (length (src .now))
-
   abbrev Own-src : Fml
-  Own-src = ShrSlice (named 0) κ₀ u8 .own src (src-val ∷ [])
-
-  abbrev vt-val : Val
-  vt-val = sliceVal (vt .ptr) (length (vt .now))
-
-  abbrev Own-vt : Fml
-  Own-vt = MutSlice (named 1) κ₁ u64 .own vt (vt-val ∷ [])
-
-  abbrev mt-val : Val
-  mt-val = sliceVal (mt .ptr) (length (mt .now))
-
-  abbrev Own-mt : Fml
-  Own-mt = MutSlice (named 2) κ₂ u64 .own mt (mt-val ∷ [])
-
-  abbrev ot-val : Val
-  ot-val = sliceVal (ot .ptr) (length (ot .now))
-
-  abbrev Own-ot : Fml
-  Own-ot = MutSlice (named 3) κ₃ u64 .own ot (ot-val ∷ [])
+  Own-src = ShrSlice (named 0) κ₀ u8 .own src (val src ∷ [])
 
   abbrev tasks-val : Val
   tasks-val = sliceVal (tasks .ptr) (length (tasks .now))
@@ -92,7 +63,7 @@ module _ {M : Type 1} (𝓤 : URA M) (H : Heap 𝓤) (A : Atoms 𝓤) (W : Given
   Own-tasks = MutSlice (named 4) κ₄ T.the-row .own tasks (tasks-val ∷ [])
 
   abbrev at : Vals f.signature κs
-  at = (src-val ∷ [], (vt-val ∷ [], (mt-val ∷ [], (ot-val ∷ [], (tasks-val ∷ [], tt)))))
+  at = (val src ∷ [], (val vt ∷ [], (val mt ∷ [], (val ot ∷ [], (tasks-val ∷ [], tt)))))
 
   abbrev Post : Val → SProp 𝓤
   Post = walkOf 𝓤 H A f.ended stayed (f.clauses 𝓤 H A mem run) .post ((κs, (q₀, (q₁, (q₂, (q₃, (q₄, tt))))), tt, (src, (vt, (mt, (ot, (tasks, tt))))), at), tt)
@@ -105,23 +76,13 @@ module _ {M : Type 1} (𝓤 : URA M) (H : Heap 𝓤) (A : Atoms 𝓤) (W : Given
       nothing ! $ move ! (5 ∷ 0 ∷ []) $ join ! $ move ! (4 ∷ 0 ∷ []) $ join ! $ move ! (3 ∷ 0 ∷ []) $ join ! $ move ! (2 ∷ 0 ∷ []) $ join ! $ move ! (1 ∷ 0 ∷ []) $ join ! $ frame ! $
       nothing ! $ move ! (5 ∷ 0 ∷ []) $ fjoin ! $ move ! (4 ∷ 0 ∷ []) $ fjoin ! $ move ! (3 ∷ 0 ∷ []) $ fjoin ! $ move ! (2 ∷ 0 ∷ []) $ fjoin ! $ move ! (1 ∷ 0 ∷ []) $ fjoin ! $ frame ! $ owned ! E.the-row (Is E.the-row) (EL.makes E.the-type E′.the-plain 𝓤 H A) a _ is $ done !
 
-  -- the calls: what each is passed, what it asks, and what is known of its result
-  abbrev to-count : PlanAnswer → Val → Count 𝓤 H A mem run .Ghost
-  to-count a u = ((tt, tt, tt, (a, tt), (u ∷ [], tt)), tt)
-
-  goes-count : (a : PlanAnswer) (u : Val) → Is E.the-row a (u ∷ []) → ent 𝓤 (emp 𝓤) (Count 𝓤 H A mem run .pre (to-count a u))
-  goes-count a u is = qed W [] ∵ nothing ! $ owned ! E.the-row (Is E.the-row) (EL.makes E.the-type E′.the-plain 𝓤 H A) a _ is $ fjoin ! $ nothing ! $ join ! $ frame ! $ done !
-
-  count-said : (a : PlanAnswer) (n : ℕ) → ent 𝓤 (ensured 𝓤 H A count.ended (count.clauses 𝓤 H A mem run) tt (a, tt) tt n) (fact 𝓤 (n ≡ countOf a))
-  count-said a n = exE 𝓤 _ (λ ws. snd∗ 𝓤 (sem 𝓤 H A (lasts count.ended tt (a, tt) ws)) (fact 𝓤 (n ≡ countOf a)))
-
-  -- the loans, at a lifetime α that the walk makes: the local at l under the name γ
+  -- the calls, at a lifetime α that the walk makes, with the local at l under the name γ: what each is passed, and what it asks
   module _ (α : Lft) (l : ℕ) (γ : GName) where
     abbrev to-reads : Reads 𝓤 H A mem run .Ghost
-    to-reads = (((κ₀, (κ₁, (κ₂, (κ₃, (α, tt))))), (q₀, (q₁, (q₂, (q₃, (fullShare, tt))))), tt, (src, (vt, (mt, (ot, (x l γ noRows, (length ks, tt)))))), (src-val ∷ [], (vt-val ∷ [], (mt-val ∷ [], (ot-val ∷ [], (s l noRows ∷ [], (vint w64 (length ks) ∷ [], tt))))))), tt)
+    to-reads = (((κ₀, (κ₁, (κ₂, (κ₃, (α, tt))))), (q₀, (q₁, (q₂, (q₃, (fullShare, tt))))), tt, (src, (vt, (mt, (ot, (x l γ noRows, (length ks, tt)))))), (val src ∷ [], (val vt ∷ [], (val mt ∷ [], (val ot ∷ [], (s l noRows ∷ [], (vint w64 (length ks) ∷ [], tt))))))), tt)
 
-    goes-reads : ent 𝓤 (⋆ 𝓤 H A ((‵ (flft κ₀ q₀) ⊛ ‵ (flft κ₁ q₁) ⊛ ‵ (flft κ₂ q₂) ⊛ ‵ (flft κ₃ q₃) ⊛ ‵ (flft α fullShare) ⊛ ‵ ftrue) ∷ ‵ (fsep Own-src (fsep Own-vt (fsep Own-mt (fsep Own-ot (fsep (Mut α l γ) (fsep (usize .own (length ks) (vint w64 (length ks) ∷ [])) ftrue)))))) ∷ [])) (Reads 𝓤 H A mem run .pre to-reads)
-    goes-reads = qed W ((‵ (flft κ₀ q₀) ⊛ ‵ (flft κ₁ q₁) ⊛ ‵ (flft κ₂ q₂) ⊛ ‵ (flft κ₃ q₃) ⊛ ‵ (flft α fullShare) ⊛ ‵ ftrue) ∷ ‵ (fsep Own-src (fsep Own-vt (fsep Own-mt (fsep Own-ot (fsep (Mut α l γ) (fsep (usize .own (length ks) (vint w64 (length ks) ∷ [])) ftrue)))))) ∷ []) ∵ says ! (let k = none-long in omega arith) $ frame ! $ done !
+    goes-reads : ent 𝓤 (⋆ 𝓤 H A ((‵ (flft κ₀ q₀) ⊛ ‵ (flft κ₁ q₁) ⊛ ‵ (flft κ₂ q₂) ⊛ ‵ (flft κ₃ q₃) ⊛ ‵ (flft α fullShare) ⊛ ‵ ftrue) ∷ ‵ (fsep Own-src (fsep (ToWrite 1 κ₁ vt) (fsep (ToWrite 2 κ₂ mt) (fsep (ToWrite 3 κ₃ ot) (fsep (Mut α l γ) (fsep (usize .own (length ks) (vint w64 (length ks) ∷ [])) ftrue)))))) ∷ [])) (Reads 𝓤 H A mem run .pre to-reads)
+    goes-reads = qed W ((‵ (flft κ₀ q₀) ⊛ ‵ (flft κ₁ q₁) ⊛ ‵ (flft κ₂ q₂) ⊛ ‵ (flft κ₃ q₃) ⊛ ‵ (flft α fullShare) ⊛ ‵ ftrue) ∷ ‵ (fsep Own-src (fsep (ToWrite 1 κ₁ vt) (fsep (ToWrite 2 κ₂ mt) (fsep (ToWrite 3 κ₃ ot) (fsep (Mut α l γ) (fsep (usize .own (length ks) (vint w64 (length ks) ∷ [])) ftrue)))))) ∷ []) ∵ says ! (let k = none-long in omega arith) $ frame ! $ done !
 
     module _ (ys : List ℕ) (n : ℕ) (n-val : Val) where
       abbrev to-save : Save 𝓤 H A mem run .Ghost
@@ -131,14 +92,14 @@ module _ {M : Type 1} (𝓤 : URA M) (H : Heap 𝓤) (A : Atoms 𝓤) (W : Given
       goes-save h = qed W ((‵ (flft κ₄ q₄) ⊛ ‵ (flft α fullShare) ⊛ ‵ ftrue) ∷ ‵ (fsep Own-tasks (fsep (Shr α l γ ys) (fsep (usize .own n (n-val ∷ [])) ftrue))) ∷ []) ∵ says ! h $ frame ! $ done !
 
   module _ (C : Calls 𝓤 H) (Λ : Loops 𝓤 H) (fm : FmC 𝓤 H (W .laws) C) (k-none : Triple 𝓤 (C #sheets·no-rows) (None 𝓤 H A mem run)) (k-reads : Triple 𝓤 (C #sheets·read-in) (Reads 𝓤 H A mem run)) (k-count : Triple 𝓤 (C #sheets·count-of) (Count 𝓤 H A mem run)) (k-save : Triple 𝓤 (C #sheets·save) (Save 𝓤 H A mem run)) where
-    walk : ent 𝓤 (onEntry 𝓤 H A f.signature κs (q₀, (q₁, (q₂, (q₃, (q₄, tt))))) (src, (vt, (mt, (ot, (tasks, tt))))) at) (WpFn 𝓤 H C Λ code.function (src-val ∷ vt-val ∷ mt-val ∷ ot-val ∷ tasks-val ∷ []) Post)
+    walk : ent 𝓤 (onEntry 𝓤 H A f.signature κs (q₀, (q₁, (q₂, (q₃, (q₄, tt))))) (src, (vt, (mt, (ot, (tasks, tt))))) at) (WpFn 𝓤 H C Λ code.function (val src ∷ val vt ∷ val mt ∷ val ot ∷ tasks-val ∷ []) Post)
     walk =
-        qed W ((‵ (flft κ₀ q₀) ⊛ ‵ (flft κ₁ q₁) ⊛ ‵ (flft κ₂ q₂) ⊛ ‵ (flft κ₃ q₃) ⊛ ‵ (flft κ₄ q₄) ⊛ ‵ ftrue) ∷ ‵ (owns (ShrSlice (named 0) κ₀ u8 ∷ MutSlice (named 1) κ₁ u64 ∷ MutSlice (named 2) κ₂ u64 ∷ MutSlice (named 3) κ₃ u64 ∷ MutSlice (named 4) κ₄ T.the-row ∷ []) (src, (vt, (mt, (ot, (tasks, tt))))) at) ∷ []) ∵ enter ! C Λ code.function (src-val ∷ vt-val ∷ mt-val ∷ ot-val ∷ tasks-val ∷ []) _ $
+        qed W ((‵ (flft κ₀ q₀) ⊛ ‵ (flft κ₁ q₁) ⊛ ‵ (flft κ₂ q₂) ⊛ ‵ (flft κ₃ q₃) ⊛ ‵ (flft κ₄ q₄) ⊛ ‵ ftrue) ∷ ‵ (owns (ShrSlice (named 0) κ₀ u8 ∷ MutSlice (named 1) κ₁ u64 ∷ MutSlice (named 2) κ₂ u64 ∷ MutSlice (named 3) κ₃ u64 ∷ MutSlice (named 4) κ₄ T.the-row ∷ []) (src, (vt, (mt, (ot, (tasks, tt))))) at) ∷ []) ∵ enter ! C Λ code.function (val src ∷ val vt ∷ val mt ∷ val ot ∷ tasks-val ∷ []) _ $
         alloc1 ! (λ l₀. alloc1 ! (λ l₁. alloc1 ! (λ l₂. alloc1 ! (λ l₃. alloc1 ! (λ l₄. alloc1 ! (λ l₅. alloc1 ! (λ l₆. alloc1 ! (λ l₇. alloc1 ! (λ l₈. alloc1 ! (λ l₉. alloc1 ! (λ l₁₀. alloc1 ! (λ l₁₁. alloc1 ! (λ l₁₂. alloc1 ! (λ l₁₃. alloc1 ! (λ l₁₄. alloc1 ! (λ l₁₅. alloc1 ! (λ l₁₆. alloc1 ! (λ l₁₇. alloc1 ! (λ l₁₈. alloc1 ! (λ l₁₉. alloc1 ! (λ l₂₀. alloc1 ! (λ l₂₁. alloc1 ! (λ l₂₂. alloc1 ! (λ l₂₃. alloc0 ! $ params1 ! $
         pass1 ! (init ! 44 refl (tt, (tt, (record { fits = src-room .0 }, tt)))) $ pass1 ! (init ! 42 refl (tt, (tt, (record { fits = vt-room .0 }, tt)))) $ pass1 ! (init ! 40 refl (tt, (tt, (record { fits = mt-room .0 }, tt)))) $ pass1 ! (init ! 38 refl (tt, (tt, (record { fits = ot-room .0 }, tt)))) $ pass1 ! (init ! 36 refl (tt, (tt, (record { fits = tasks-room .0 }, tt)))) $ pass0 ! $
         -- the tokens and what the parameters own, apart
         move ! (48 ∷ []) $ split ! $ move ! (1 ∷ []) $ split ! $ move ! (1 ∷ []) $ split ! $ move ! (1 ∷ []) $ split ! $ move ! (1 ∷ []) $ split ! $ move ! (1 ∷ []) $ drop ! $ move ! (53 ∷ []) $ fsplit ! $ move ! (1 ∷ []) $ fsplit ! $ move ! (1 ∷ []) $ fsplit ! $ move ! (1 ∷ []) $ fsplit ! $ move ! (1 ∷ []) $ fsplit ! $ move ! (1 ∷ []) $ drop ! $
-        move ! (4 ∷ []) $ use1 W (‵ Own-src ⊛ ‵ Own-src) (shr-slice-copy 𝓤 H A W (named 0) κ₀ u8 .twice src (src-val ∷ [])) $ split ! $
+        move ! (4 ∷ []) $ use1 W (‵ Own-src ⊛ ‵ Own-src) (shr-slice-copy 𝓤 H A W (named 0) κ₀ u8 .twice src (val src ∷ [])) $ split ! $
         -- `no_rows`, into the local that is lent
         use0 W (raw (None 𝓤 H A mem run .pre (to-none 𝓤 H A mem run))) (goes-no-rows 𝓤 H A mem run W) $ calls-at ! fm (None 𝓤 H A mem run) k-none (to-none 𝓤 H A mem run) (no-more !) (λ w₀.
         use1 W (later (some (λ (ys : List ℕ). (‵ ftrue ⊛ ‵ (R .own ys (w₀ ∷ []))) ⊛ raw (ensured 𝓤 H A none.ended (none.clauses 𝓤 H A mem run) tt tt tt ys)))) (id⊢ 𝓤 _) $ await ! tt $ pick ! (λ ys. split ! $ move ! (1 ∷ []) $ use1 W (raw (fact 𝓤 (ys ≡ noRows))) (none-said 𝓤 H A mem run ys) $ heard ! (ys ≡ noRows) (λ e₀. split ! $ drop ! $
@@ -173,8 +134,8 @@ module _ {M : Type 1} (𝓤 : URA M) (H : Heap 𝓤) (A : Atoms 𝓤) (W : Given
         fsplit ! $ drop ! $ use1 W (‵ (row u64 fullShare (zs .1 .1 .1 .1 .0) l₆ 0)) (whole-out 𝓤 H A W u64 (zs .1 .1 .1 .1 .0) l₆ 0) $
         feqI ! ℕ (length (zs .1 .1 .1 .1 .0)) (length (zs .1 .1 .1 .1 .0)) refl $ fjoin ! $
         -- `count_of`
-        use0 W (raw (Count 𝓤 H A mem run .pre (to-count a w₁))) (goes-count a w₁ is₁) $ calls-at ! fm (Count 𝓤 H A mem run) k-count (to-count a w₁) (and-then ! (read ! (from ! (stop !)) (look ! 44 refl)) (no-more !)) (λ w₂.
-        use1 W (later (some (λ (n : ℕ). (‵ ftrue ⊛ ‵ (usize .own n (w₂ ∷ []))) ⊛ raw (ensured 𝓤 H A count.ended (count.clauses 𝓤 H A mem run) tt (a, tt) tt n)))) (id⊢ 𝓤 _) $ await ! tt $ pick ! (λ n. split ! $ move ! (1 ∷ []) $ use1 W (raw (fact 𝓤 (n ≡ countOf a))) (count-said a n) $ heard ! (n ≡ countOf a) (λ e₂. split ! $ drop ! $ peeks ! usize (Is usize) (shows 𝓤 H A usize) n (w₂ ∷ []) (λ is₂. drop ! $
+        use0 W (raw (Count 𝓤 H A mem run .pre (to-count 𝓤 H A mem run a w₁))) (goes-count 𝓤 H A mem run W a w₁ is₁) $ calls-at ! fm (Count 𝓤 H A mem run) k-count (to-count 𝓤 H A mem run a w₁) (and-then ! (read ! (from ! (stop !)) (look ! 44 refl)) (no-more !)) (λ w₂.
+        use1 W (later (some (λ (n : ℕ). (‵ ftrue ⊛ ‵ (usize .own n (w₂ ∷ []))) ⊛ raw (ensured 𝓤 H A count.ended (count.clauses 𝓤 H A mem run) tt (a, tt) tt n)))) (id⊢ 𝓤 _) $ await ! tt $ pick ! (λ n. split ! $ move ! (1 ∷ []) $ use1 W (raw (fact 𝓤 (n ≡ countOf a))) (count-said 𝓤 H A mem run a n) $ heard ! (n ≡ countOf a) (λ e₂. split ! $ drop ! $ peeks ! usize (Is usize) (shows 𝓤 H A usize) n (w₂ ∷ []) (λ is₂. drop ! $
         land ! (from ! (stop !)) (init ! 41 refl (uint-lawful 𝓤 H A W w64 .typed n _ is₂ .0)) $
         assigns ! (addr ! (from ! (fld ! refl (hop ! (look-in ! 46 (sub ! 0 refl (whole !))) (stop !))))) (from ! (stop !)) (init ! 17 refl (tt, tt)) $
         assigns ! (agg ! (and-then ! (read ! (from ! (stop !)) (look ! 17 refl)) (and-then ! (read ! (from ! (fld ! refl (stop !))) (look-in ! 46 (sub ! 1 refl (whole !)))) (no-more !)))) (from ! (stop !)) (init ! 15 refl (tt, (tt, (record { fits = tasks-room .0 }, tt)))) $
