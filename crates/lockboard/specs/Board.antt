@@ -1,16 +1,12 @@
 -- The board: what it holds, its events, and the conditions for 9.
 use Prim.Native.Nat.{ℕ, _+_, _-_, _*_, max}
-use mathlib.Core.List.{List, []}
-use mathlib.Core.Bool.{Bool, true, false, _&&_, _||_, not}
+use mathlib.Core.List.{List}
+use mathlib.Core.Bool.{Bool, false, _&&_, _||_, not}
 use lib.Dec.{eqb, ltb, leb}
 use lib.ListN.{getD, set}
 use Rattle.laws.specs.Choice.{if_then_else_}
 use Rattle.laws.specs.Range.{anyTo, allTo, highest, listTo}
 use Rattle.model.specs.Limits.{maxV, maxM, maxN, maxTicks, taskRaise, vcpuRaise}
-use Rattle.model.specs.declared.Policy.{Policy}
-use Rattle.model.specs.declared.Policy.the-variants.{Periodic, Deferrable}
-use Rattle.model.specs.declared.OverrunChoice.{OverrunChoice}
-use Rattle.model.specs.declared.OverrunChoice.the-variants.{WithOverrun, WithoutOverrun}
 use Rattle.model.specs.declared.Refusal.{Refusal}
 use Rattle.model.specs.declared.Refusal.the-variants.{Range, Foreign, Unknown, Unlisted, Asleep, Busy, NotHolder, Supply}
 use Rattle.model.specs.declared.Fault.{Fault}
@@ -18,6 +14,7 @@ use Rattle.model.specs.declared.Fault.the-variants.{Clear, Bad}
 use Rattle.model.specs.Refusals.{unless}
 use Rattle.model.specs.Rules.{within}
 use Rattle.lockboard.specs.Facts.{Facts}
+pub use Rattle.supplies.specs.Supplies.{reserve, underP}
 pub use Rattle.lockboard.specs.declared.Board.{Board}
 pub use Rattle.lockboard.specs.declared.Event.{Event}
 pub use Rattle.lockboard.specs.declared.Event.the-variants.{Ask, Free, Use, Top, Show}
@@ -94,10 +91,6 @@ unfoldable pub isBusy : Board → ℕ → ℕ → Bool
 isBusy b v n = not (eqb (waitOf b v n) 0) || anyTo maxM (λ m. holds b v n m)
 
 -- SUPPLY is b, plus o if policy O holds, the VCPU's tasks hold a global mutex and it is not stopped
-abbrev pub reserve : OverrunChoice → Bool → Bool → ℕ → ℕ
-reserve WithOverrun held stopped o = if held && not stopped then o else 0
-reserve WithoutOverrun held stopped o = 0
-
 unfoldable pub supply : Facts → Board → ℕ → ℕ
 supply F b v = leftOf b v + reserve (F .choice) (holdsGlobal F b v) (isStopped b v) (overOf b v)
 
@@ -107,10 +100,6 @@ isAsleep F b v = eqb (supply F b v) 0
 
 -- THE MARK. "Under P a VCPU that stands at b = 0 when an event is complete (a freed mutex already handed on),
 -- with no global mutex held by its own tasks, is marked stopped until its next `top`"
-abbrev pub underP : Policy → Bool
-underP Periodic = true
-underP Deferrable = false
-
 unfoldable pub mustStop : Facts → Board → ℕ → Bool
 mustStop F b v = underP (F .policy) && (F .hasVcpu v && (eqb (leftOf b v) 0 && not (holdsGlobal F b v)))
 
@@ -247,7 +236,7 @@ abbrev pub answered : Board → Fault → Outcome → Outcome
 answered b Clear o = o
 answered b (Bad r) o = refused b r
 
--- ONE EVENT on a board that meets the conditions
+-- ONE EVENT on any board; `stepOn` tests first that the board meets the conditions
 unfoldable pub step : Facts → Board → Event → Outcome
 step F b (Ask v n m) = answered b (askFault F b v n m) (asked F b v n m)
 step F b (Free v n m) = answered b (freeFault F b v n m) (freed F b v m)

@@ -4,7 +4,8 @@ use Rattle.lockboard.proofs.Board.settle.Statement.{statement}
 use Rattle.lockboard.proofs.Board.settle.Tie as tie
 
 returns : tie.Need-returns
-returns c = λ o. let a = c .before .before .args in rw (c .marks .ensures, settled-in (a .policy) o (a .view .now))
+returns c = λ o. let a = c .before .before .before .before .before .before .before .before .args in rw (c .marks .ensures, settled-in (a .policy) o (a .view .now))
 
 pub settle-spec : {M : Type 1} → statement M
-settle-spec = tie.close (tie.spec (λ c κs. search needs) returns)
+settle-spec =
+    tie.close (tie.spec (λ c κs. search needs) returns)

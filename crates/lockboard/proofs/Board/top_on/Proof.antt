@@ -1,6 +1,7 @@
 use mathlib.Core.Path.{sym, _∙_}
 use borrow.Author.Tests.{not-true, not-false}
-use Rattle.lockboard.specs.BoardLaws.{vcpu-range, top-unknown, top-known}
+use Rattle.supplies.specs.SupplyLaws.{vcpu-range}
+use Rattle.lockboard.specs.BoardLaws.{top-unknown, top-known}
 use borrow.Author.Needs.{needs}
 use Rattle.lockboard.proofs.Board.top_on.Statement.{statement}
 use Rattle.lockboard.proofs.Board.top_on.Tie as tie

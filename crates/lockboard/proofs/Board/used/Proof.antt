@@ -6,18 +6,8 @@ use Rattle.lockboard.proofs.Board.used.Tie as tie
 returns : tie.Need-returns
 unfolding used
 returns c = λ o. let d = c .before .before .before in
-    rw (c .complete .ensures o, c .before .left-answer .ensures, c .before .before .put-left .ensures, d .sub3 .ensures, d .before .sub2 .ensures, d .before .before .sub .ensures, d .before .before .before .figure2 .ensures, d .before .before .before .before .before .before .before .figure .ensures)
+    rw (c .complete .ensures o, c .before .left-answer .ensures, c .before .before .put-left .ensures, d .overrun-after .ensures, d .before .before .before .before .before .before .budget-after .ensures)
 
 pub used-spec : {M : Type 1} → statement M
 used-spec =
-    tie.close
-    (tie.spec
-    (λ c κs. search needs)
-    (λ c κs. search needs)
-    (λ c κs. search needs)
-    (λ c κs. search needs)
-    (λ c κs. search needs)
-    (λ c κs. search needs)
-    (λ c κs. search needs)
-    (λ c κs. search needs)
-    returns)
+    tie.close (tie.spec (λ c κs. search needs) (λ c κs. search needs) (λ c κs. search needs) (λ c κs. search needs) (λ c κs. search needs) returns)

@@ -1,0 +1,2 @@
+pub mod Supplies
+pub mod SupplyLaws
