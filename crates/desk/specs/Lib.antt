@@ -1,6 +1,5 @@
 pub mod Ample
 pub mod Read
-pub mod Tested
 pub mod Boarded
 pub mod Told
 pub mod Whole

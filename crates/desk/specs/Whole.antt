@@ -15,7 +15,7 @@ use Rattle.model.specs.Accepted.{read-text}
 use Rattle.listing.specs.Listing.{refusedLine, verdictText}
 use Rattle.order.specs.Bound.{refused-bound, refused-line, verdict-bound}
 use Rattle.lockboard.specs.Events.{eventsText, boardText}
-use Rattle.writers.specs.Wrote.{Wrote}
+use Rattle.letters.specs.Wrote.{Wrote}
 use Rattle.writers.specs.declared.TextAnswer.{TextAnswer}
 use Rattle.writers.specs.declared.TextAnswer.the-variants.{Written, Refused}
 use Rattle.writers.specs.Into.{hasRoom, textAnswer, textAfter}

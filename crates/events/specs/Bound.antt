@@ -30,8 +30,9 @@ use Rattle.model.specs.Line.{Form, Word, Item, shape, kinds, hasShape, itemOf, 
 use Rattle.lines.specs.Said.{saidOf}
 use Rattle.lines.specs.SaidLaws.{kind-has, item-is}
 use Rattle.listing.specs.Listing.{line, dash, wRefused}
-use Rattle.writers.specs.Wrote.{Sized}
-use Rattle.writers.specs.SizeLaws.{line-sized, rest-sized, end-sized}
+use Rattle.letters.specs.Wrote.{Sized}
+use Rattle.letters.specs.SizeLaws.{rest-sized, end-sized}
+use Rattle.writers.specs.SizeLaws.{line-sized}
 use Rattle.lockboard.specs.Facts.{Facts}
 use Rattle.lockboard.specs.declared.Board.{Board}
 use Rattle.lockboard.specs.declared.Event.{Event}

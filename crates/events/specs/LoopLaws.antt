@@ -14,8 +14,8 @@ use Rattle.laws.specs.Sums.{flat}
 use Rattle.model.specs.Limits.{lf}
 use Rattle.model.specs.declared.Refusal.the-variants.{Shape}
 use Rattle.listing.specs.Listing.{line}
-use Rattle.writers.specs.Wrote.{Wrote, Sized}
-use Rattle.writers.specs.WroteLaws.{wrote-as}
+use Rattle.letters.specs.Wrote.{Wrote, Sized}
+use Rattle.letters.specs.WroteLaws.{wrote-as}
 use Rattle.lockboard.specs.Facts.{Facts}
 use Rattle.lockboard.specs.declared.Board.{Board}
 use Rattle.lockboard.specs.declared.BoardAnswer.{BoardAnswer}

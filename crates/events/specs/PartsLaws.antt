@@ -20,8 +20,8 @@ use Rattle.lines.specs.declared.Said.{Said}
 use Rattle.lines.specs.Said.{saidOf, itemAs, saidItem}
 use Rattle.lines.specs.SaidLaws.{said-item}
 use Rattle.listing.specs.Listing.{line, dash, wRefused}
-use Rattle.writers.specs.Wrote.{Sized}
-use Rattle.writers.specs.Lines.{rest}
+use Rattle.letters.specs.Wrote.{Sized}
+use Rattle.letters.specs.Tabbed.{rest}
 use Rattle.writers.specs.SizeLaws.{line-sized}
 use Rattle.lockboard.specs.Facts.{Facts}
 use Rattle.lockboard.specs.declared.Board.{Board}

@@ -22,7 +22,7 @@ ghost use Rattle.model.specs.Line.{shape, written, numsOf};
 ghost use Rattle.model.specs.declared.Refusal.the-variants.{Shape};
 ghost use Rattle.lines.specs.Said.{saidItem};
 ghost use Rattle.listing.specs.Listing.{line};
-ghost use Rattle.writers.specs.Wrote.{Wrote, Sized};
+ghost use Rattle.letters.specs.Wrote.{Wrote, Sized};
 ghost use Rattle.lockboard.specs.Board as board;
 ghost use Rattle.lockboard.specs.View.{factsIn};
 ghost use Rattle.lockboard.specs.Events.{eventOf, onItem, onLine, lineAnswers, answerFields, answersText};
@@ -233,7 +233,7 @@ fn plain_line(out: &mut [u8], word: u64) -> usize
 {
     let later = pick(word == 1, b"waits\n", b"freed\t-\t-\n");
     let text = pick(word == 0, b"granted\n", later);
-    writers::put(out, text)
+    letters::put(out, text)
 }
 
 // Writes a word's line with a number.
@@ -241,8 +241,8 @@ fn one_line(out: &mut [u8], w: &[u8], x: u64) -> usize
     requires { ⌜ length (line (now w ∷ decimal x ∷ [])) ≤ length (now out) ⌝ }
     ensures { λ r. ⌜ Wrote (line (now (w .entry) ∷ decimal x ∷ [])) (now (out .entry)) (now (out .exit)) r ⌝ }
 {
-    let k = writers::put(out, w);
-    k + writers::last_rest(&mut out[k..], x)
+    let k = letters::put(out, w);
+    k + letters::last_rest(&mut out[k..], x)
 }
 
 // Writes a word's line with two numbers.
@@ -250,8 +250,8 @@ fn two_line(out: &mut [u8], w: &[u8], x: u64, y: u64) -> usize
     requires { ⌜ length (line (now w ∷ decimal x ∷ decimal y ∷ [])) ≤ length (now out) ⌝ }
     ensures { λ r. ⌜ Wrote (line (now (w .entry) ∷ decimal x ∷ decimal y ∷ [])) (now (out .entry)) (now (out .exit)) r ⌝ }
 {
-    let k = writers::word_one(out, w, x);
-    k + writers::last_rest(&mut out[k..], y)
+    let k = letters::word_one(out, w, x);
+    k + letters::last_rest(&mut out[k..], y)
 }
 
 // Writes a line with two numbers.
@@ -314,8 +314,8 @@ fn word_size(word: u64) -> usize
 fn parts_size(count: u64, word: u64, x: u64, y: u64) -> usize
     ensures { λ r. ⌜ Sized (partsText count word x y) 60 r ⌝ }
 {
-    let one = writers::number_size(x);
-    let two = writers::number_size(y);
+    let one = letters::number_size(x);
+    let two = letters::number_size(y);
     let w = word_size(word);
     if count == 0 {
         return plain_size(word);
@@ -426,10 +426,10 @@ pub fn put_answers(
         let next = at + k + 1;
         let o = on_line(t, policy, choice, view, &rest[..k]);
         let a = o.answer;
-        let u = o.board;
+        let left = o.board;
         let m = line_at(out, n, a);
         n = m;
-        t = u;
+        t = left;
         at = next;
     }
 }

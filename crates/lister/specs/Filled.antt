@@ -5,7 +5,7 @@ use mathlib.Core.List.{List}
 use lib.ListN.{length}
 use Rattle.laws.specs.Sums.{flat}
 use Rattle.laws.specs.Rows.{rows}
-use Rattle.writers.specs.Wrote.{Wrote}
+use Rattle.letters.specs.Wrote.{Wrote}
 
 -- the texts of the first i of n rows are written, and all n fit
 pub record Filled {A : Type 0} (f : A → List ℕ) (row : ℕ → A) (n : ℕ) (before after : List ℕ) (i at : ℕ) : Type 0 where

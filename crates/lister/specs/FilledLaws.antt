@@ -8,8 +8,8 @@ use lib.ListN.{length, take, drop, length-append, length-drop}
 use Rattle.laws.specs.Sums.{flat}
 use Rattle.laws.specs.Rows.{rows}
 use Rattle.search.specs.TableLaws.{flat-next, sum-prefix}
-use Rattle.writers.specs.Wrote.{Wrote, Joins}
-use Rattle.writers.specs.WroteLaws.{ends, rest-fits, both-wrote, both-fit}
+use Rattle.letters.specs.Wrote.{Wrote, Joins}
+use Rattle.letters.specs.WroteLaws.{ends, rest-fits, both-wrote, both-fit}
 use Rattle.order.specs.RisingLaws.{length-flat}
 use Rattle.lister.specs.Filled.{Filled}
 

@@ -11,7 +11,7 @@ ghost use Rattle.model.specs.declared.Refusal.the-variants.{Room, Foreign};
 ghost use Rattle.tables.specs.Layout.{cell, vcpuRow, lockRow, taskRow};
 ghost use Rattle.figures.specs.Tabled.{Fit, systemIn};
 ghost use Rattle.listing.specs.Listing.{vcpuLine, waitLines, taskLines, rising, listing};
-ghost use Rattle.writers.specs.Wrote.{Wrote};
+ghost use Rattle.letters.specs.Wrote.{Wrote};
 ghost use Rattle.writers.specs.declared.TextAnswer.the-variants.{Written, Refused};
 ghost use Rattle.writers.specs.Into.{textAnswer, textAfter};
 ghost use Rattle.order.specs.Ordered.{Ordered};

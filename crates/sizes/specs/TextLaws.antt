@@ -20,7 +20,7 @@ use Rattle.figures.specs.Tabled.{systemIn}
 use Rattle.figures.specs.declared.TaskAnswer.{TaskAnswer}
 use Rattle.figures.specs.Answers.{waitAnswer, allFit}
 use Rattle.listing.specs.Listing.{vcpuLine, waitLine, waitLines, taskLine, taskLines, rising, allLine, listing}
-use Rattle.writers.specs.Wrote.{Joins, Sized}
+use Rattle.letters.specs.Wrote.{Joins, Sized}
 use Rattle.writers.specs.Lines.{headText, vcpuText, waitText, taskText, allText}
 use Rattle.writers.specs.LineLaws.{vcpu-line, wait-line, task-line, all-line}
 use Rattle.order.specs.Ordered.{Ordered}

@@ -6,7 +6,7 @@ ghost use Rattle.laws.specs.Sums.{flat};
 ghost use Rattle.tables.specs.Layout.{cell, vcpuRow, lockRow, taskRow};
 ghost use Rattle.figures.specs.Tabled.{Fit, systemIn};
 ghost use Rattle.listing.specs.Listing.{vcpuLine, waitLines, taskLines, rising, listing};
-ghost use Rattle.writers.specs.Wrote.{Sized};
+ghost use Rattle.letters.specs.Wrote.{Sized};
 ghost use Rattle.order.specs.Ordered.{Ordered};
 ghost use Rattle.told.specs.Read.{VcpuAnswersIn, WaitAnswersIn, TaskAnswersIn, AnswersIn};
 ghost use Rattle.sizes.specs.Texts.{placeText};

@@ -246,12 +246,10 @@ pub fn may_have(view: &[u64], holder: &[u16], v: u64, n: u64, m: u64) -> bool
     requires { ⌜ (v ≤ 16) × (n ≤ 8) ⌝ }
     ensures { λ r. ⌜ r ≡ mayHaveAt (now (view .entry)) (now (holder .entry)) v n m ⌝ }
 {
-    let free = seats::holder(holder, m) == 0;
-    pick(
-        seats::is_global(view, m),
-        free,
-        walks::passes(view, holder, v, n),
-    )
+    if seats::is_global(view, m) {
+        return seats::holder(holder, m) == 0;
+    }
+    walks::passes(view, holder, v, n)
 }
 
 // The highest VCPU that has a waiter for m, from the rows; 0 for none.

@@ -1,18 +1,14 @@
 -- A line's text is its first field and the rest; an answer's fields are a word, a number or a word, and a number.
-use Prim.Native.Nat.{ℕ, suc, _+_, _/_, _%_, _^_, _≤_, _<_}
-use mathlib.Core.Path.{_≡_, refl, ap, sym, _∙_}
+use Prim.Native.Nat.{ℕ}
+use mathlib.Core.Path.{_≡_, refl, sym, _∙_}
 use mathlib.Core.List.{List, [], _∷_, _++_, append-assoc}
 use mathlib.Core.Bool.{Bool, true, false}
-use native.Mathlib.Omega.{arith}
-use native.Mathlib.Nat.{pow-le-pow-right}
 use lib.Dec.{eqb}
 use Rattle.laws.specs.Choice.{if_then_else_}
 use Rattle.laws.specs.Bytes.{joined}
-use Rattle.laws.specs.Decimal.{decimal, digits}
-use Rattle.laws.specs.DecimalLaws.{digits-one, digits-more, decimal-digits, below-power}
+use Rattle.laws.specs.Decimal.{decimal}
 use Rattle.search.specs.declared.Answer.{Answer}
 use Rattle.search.specs.declared.Answer.the-variants.{Fits, Late}
-use Rattle.model.specs.Limits.{tab, lf}
 use Rattle.model.specs.declared.Refusal.{Refusal}
 use Rattle.model.specs.Refusals.{numberOf}
 use Rattle.model.specs.Plan.{Vcpu, Lock, Task}
@@ -21,9 +17,11 @@ use Rattle.figures.specs.declared.TaskAnswer.{TaskAnswer}
 use Rattle.figures.specs.declared.TaskAnswer.the-variants.{Searched, NoWait, Held}
 use Rattle.figures.specs.Answers.{vcpuAnswer, waitAnswer, taskAnswer, allFit}
 use Rattle.listing.specs.Listing.{wRefused, wFits, wLate, wNoWait, wHeld, wNone, dash, line, taskFields, waitFields, refusedLine, vcpuLine, waitLine, taskLine, allLine}
+use Rattle.letters.specs.Wrote.{Joins}
+use Rattle.letters.specs.Tabbed.{tabbed, rest, numberOr}
+use Rattle.letters.specs.TabbedLaws.{joined-rest, rest-more}
 use Rattle.writers.specs.declared.Parts.{Parts}
-use Rattle.writers.specs.Wrote.{Joins}
-use Rattle.writers.specs.Lines.{headText, vcpuText, waitText, taskText, allText, tabbed, rest, numberOr, partsOf, taskParts, answerWord}
+use Rattle.writers.specs.Lines.{headText, vcpuText, waitText, taskText, allText, partsOf, taskParts, answerWord}
 
 -- the listing's lines are these texts at a plan's rows
 module _ (s : System) where
@@ -43,22 +41,9 @@ module _ (s : System) where
   unfolding allLine
   all-line = refl
 
-joined-rest : (f : List ℕ) (fs : List (List ℕ)) → joined tab (f ∷ fs) ++ (lf ∷ []) ≡ f ++ rest fs
-unfolding joined rest
-joined-rest f [] = refl
-joined-rest f (g ∷ fs) = append-assoc f _ _ ∙ ap (λ m. f ++ (tab ∷ m)) (joined-rest g fs)
-
 line-rest : (f : List ℕ) (fs : List (List ℕ)) → line (f ∷ fs) ≡ f ++ rest fs
 unfolding line
 line-rest f fs = joined-rest f fs
-
-rest-more : (f : List ℕ) (fs : List (List ℕ)) → rest (f ∷ fs) ≡ tabbed f ++ rest fs
-unfolding rest
-rest-more f fs = refl
-
--- after the first field: a field, and the rest
-pub rest-joins : (f : List ℕ) (fs : List (List ℕ)) → Joins (rest (f ∷ fs)) (tabbed f) (rest fs)
-rest-joins f fs = record { is = rest-more f fs }
 
 -- a line's first field, and the rest
 pub line-joins : (f : List ℕ) (fs : List (List ℕ)) → Joins (line (f ∷ fs)) f (rest fs)
@@ -71,17 +56,6 @@ line-two f g fs = record { is = line-rest f (g ∷ fs) ∙ rw (rest-more g fs, a
 -- three fields in front, and the rest
 pub line-three : (f g h : List ℕ) (fs : List (List ℕ)) → Joins (line (f ∷ g ∷ h ∷ fs)) ((f ++ tabbed g) ++ tabbed h) (rest fs)
 line-three f g h fs = record { is = line-rest f (g ∷ h ∷ fs) ∙ simp (rest-more, append-assoc) }
-
-pub choice-number : {c : Bool} (n : ℕ) (w : List ℕ) → c ≡ true → numberOr c n w ≡ decimal n
-choice-number n w e = rw e
-
-pub choice-word : {c : Bool} (n : ℕ) (w : List ℕ) → c ≡ false → numberOr c n w ≡ w
-choice-word n w e = rw e
-
--- the last field, and LF
-pub rest-last : (f : List ℕ) → Joins (rest (f ∷ [])) (tabbed f) (lf ∷ [])
-unfolding rest
-rest-last f = record { is = refl }
 
 -- an answer's fields, taken apart
 wait-fields : (a : Answer) → waitFields a ≡ numberOr (partsOf a .found) (partsOf a .ticks) wNone ∷ decimal (partsOf a .rounds) ∷ []
@@ -130,23 +104,3 @@ pub all-bytes : (b : Bool) {w : List ℕ} →
 unfolding line joined
 all-bytes true e = sym e
 all-bytes false e = sym e
-
-decimal-one : (n : ℕ) → n < 10 → decimal n ≡ (48 + n) ∷ []
-unfolding decimal
-decimal-one n h = digits-one n n h
-
--- one digit
-pub decimal-only : {n d : ℕ} → n < 10 → d ≡ 48 + n % 10 → decimal n ≡ d ∷ []
-decimal-only {n} {d} h e = let k : d ≡ 48 + n = omega arith in decimal-one n h ∙ ap (λ m. m ∷ []) (sym k)
-
-decimal-step : (n : ℕ) → 10 ≤ n → decimal n ≡ digits n (n / 10) ++ ((48 + n % 10) ∷ [])
-unfolding decimal
-decimal-step n h = digits-more n n h
-
--- the last digit stands behind those of a tenth
-pub decimal-last : {n d : ℕ} → 10 ≤ n → d ≡ 48 + n % 10 → Joins (decimal n) (decimal (n / 10)) (d ∷ [])
-decimal-last {n} {d} h k =
-    let q : n / 10 < 10 ^ suc (n / 10) = below-power (n / 10) in
-    let p : 10 ^ suc (n / 10) ≤ 10 ^ n = pow-le-pow-right (omega arith) (omega arith) in
-    let e : decimal (n / 10) ≡ digits n (n / 10) = decimal-digits n (n / 10) (omega arith) (omega arith) in
-    record { is = decimal-step n h ∙ rw (e, k) }

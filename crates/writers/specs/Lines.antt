@@ -1,13 +1,12 @@
 -- The texts of the lines that a listing is made of, and the fields that an answer gives.
 use Prim.Native.Nat.{ℕ}
-use mathlib.Core.List.{List, [], _∷_, _++_}
+use mathlib.Core.List.{List, [], _∷_}
 use mathlib.Core.Bool.{Bool, true, false}
 use lib.Dec.{eqb}
 use Rattle.laws.specs.Choice.{if_then_else_}
 use Rattle.laws.specs.Decimal.{decimal}
 use Rattle.search.specs.declared.Answer.{Answer}
 use Rattle.search.specs.declared.Answer.the-variants.{Fits, Late}
-use Rattle.model.specs.Limits.{tab, lf}
 use Rattle.model.specs.Line.{wOne, wVcpu, wTask}
 use Rattle.figures.specs.declared.TaskAnswer.{TaskAnswer}
 use Rattle.figures.specs.declared.TaskAnswer.the-variants.{Searched, NoWait, Held}
@@ -33,19 +32,6 @@ taskText v n a = line (wTask ∷ decimal v ∷ decimal n ∷ taskFields a)
 -- `all` and whether all fit
 abbrev pub allText : Bool → List ℕ
 allText b = line (wAll ∷ (if b then wFits else wLate) ∷ [])
-
--- a field after a tab
-abbrev pub tabbed : List ℕ → List ℕ
-tabbed f = tab ∷ f
-
--- what follows a line's first field: each field after a tab, and LF
-unfoldable pub rest : List (List ℕ) → List ℕ
-rest [] = lf ∷ []
-rest (f ∷ fs) = tabbed f ++ rest fs
-
--- a number, or the word that stands where it is lacking
-abbrev pub numberOr : Bool → ℕ → List ℕ → List ℕ
-numberOr b n w = if b then decimal n else w
 
 -- an answer taken apart: code, whether it has ticks, these, rounds
 abbrev pub partsOf : Answer → Parts

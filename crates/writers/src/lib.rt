@@ -3,15 +3,15 @@ use figures::TaskAnswer;
 use model::Refusal;
 use search::Answer;
 ghost use mathlib.Core.Path.{_≡_};
-ghost use mathlib.Core.List.{[], _∷_, _++_};
-ghost use Prim.Native.Nat.{_+_, _≤_, _<_, _%_};
+ghost use mathlib.Core.List.{_∷_};
+ghost use Prim.Native.Nat.{_≤_};
 ghost use lib.ListN.{length};
-ghost use Rattle.laws.specs.Choice.{if_then_else_};
 ghost use Rattle.laws.specs.Decimal.{decimal};
 ghost use Rattle.model.specs.Refusals.{numberOf};
 ghost use Rattle.listing.specs.Listing.{taskFields, waitFields, refusedLine};
-ghost use Rattle.writers.specs.Wrote.{Wrote, Sized};
-ghost use Rattle.writers.specs.Lines.{headText, vcpuText, waitText, taskText, allText, tabbed, rest, numberOr, partsOf, taskParts, answerWord};
+ghost use Rattle.letters.specs.Wrote.{Wrote, Sized};
+ghost use Rattle.letters.specs.Tabbed.{tabbed, rest};
+ghost use Rattle.writers.specs.Lines.{headText, vcpuText, waitText, taskText, allText, partsOf, taskParts, answerWord};
 
 // The answer of a call that writes a text into a lent buffer: its size, or a refusal.
 pub enum TextAnswer {
@@ -89,136 +89,15 @@ pub fn number_of(r: Refusal) -> u64
     }
 }
 
-// One of two words.
-fn pick<'a>(c: bool, a: &'a [u8], b: &'a [u8]) -> &'a [u8]
-    ensures { λ r. ⌜ now r ≡ if c then now (a .entry) else now (b .entry) ⌝ }
-{
-    if c { a } else { b }
-}
-
-// The last digit.
-fn digit(n: u64) -> u8
-    ensures { λ r. ⌜ r ≡ 48 + n % 10 ⌝ }
-{
-    48 + (n % 10) as u8
-}
-
-// Writes one byte.
-pub fn put_byte(out: &mut [u8], b: u8) -> usize
-    requires { ⌜ 1 ≤ length (now out) ⌝ }
-    ensures { λ r. ⌜ Wrote (b ∷ []) (now (out .entry)) (now (out .exit)) r ⌝ }
-{
-    out[0] = b;
-    1
-}
-
-// Copies the bytes of w.
-pub fn put(out: &mut [u8], w: &[u8]) -> usize
-    requires { ⌜ length (now w) ≤ length (now out) ⌝ }
-    ensures { λ r. ⌜ Wrote (now (w .entry)) (now (out .entry)) (now (out .exit)) r ⌝ }
-{
-    let mut i = 0;
-    while i < w.len() {
-        out[i] = w[i];
-        i += 1;
-    }
-    i
-}
-
-// Writes n in decimal.
-pub fn put_number(out: &mut [u8], n: u64) -> usize
-    requires { ⌜ length (decimal n) ≤ length (now out) ⌝ }
-    ensures { λ r. ⌜ Wrote (decimal n) (now (out .entry)) (now (out .exit)) r ⌝ }
-{
-    let d = digit(n);
-    if n < 10 {
-        return put_byte(out, d);
-    }
-    let k = put_number(out, n / 10);
-    k + put_byte(&mut out[k..], d)
-}
-
-// Writes a number, or the word that stands where it is lacking.
-fn put_choice(out: &mut [u8], c: bool, n: u64, w: &[u8]) -> usize
-    requires { ⌜ length (numberOr c n (now w)) ≤ length (now out) ⌝ }
-    ensures { λ r. ⌜ Wrote (numberOr c n (now (w .entry))) (now (out .entry)) (now (out .exit)) r ⌝ }
-{
-    if c {
-        return put_number(out, n);
-    }
-    put(out, w)
-}
-
-// Writes a tab and a number, or a word where it is lacking.
-fn tab_choice(out: &mut [u8], c: bool, n: u64, w: &[u8]) -> usize
-    requires { ⌜ length (tabbed (numberOr c n (now w))) ≤ length (now out) ⌝ }
-    ensures { λ r. ⌜ Wrote (tabbed (numberOr c n (now (w .entry)))) (now (out .entry)) (now (out .exit)) r ⌝ }
-{
-    let k = put_byte(out, 9);
-    k + put_choice(&mut out[k..], c, n, w)
-}
-
-// Writes a tab and a number.
-pub fn tab_number(out: &mut [u8], n: u64) -> usize
-    requires { ⌜ length (tabbed (decimal n)) ≤ length (now out) ⌝ }
-    ensures { λ r. ⌜ Wrote (tabbed (decimal n)) (now (out .entry)) (now (out .exit)) r ⌝ }
-{
-    tab_choice(out, true, n, b"")
-}
-
-// Writes a tab and a word.
-fn tab_word(out: &mut [u8], w: &[u8]) -> usize
-    requires { ⌜ length (tabbed (now w)) ≤ length (now out) ⌝ }
-    ensures { λ r. ⌜ Wrote (tabbed (now (w .entry))) (now (out .entry)) (now (out .exit)) r ⌝ }
-{
-    tab_choice(out, false, 0, w)
-}
-
 // Writes a tab and an answer's word.
 fn tab_answer(out: &mut [u8], c: u64) -> usize
     requires { ⌜ length (tabbed (answerWord c)) ≤ length (now out) ⌝ }
     ensures { λ r. ⌜ Wrote (tabbed (answerWord c)) (now (out .entry)) (now (out .exit)) r ⌝ }
 {
-    let held = pick(c == 2, b"nowait", b"held");
-    let late = pick(c == 1, b"late", held);
-    let word = pick(c == 0, b"fits", late);
-    tab_word(out, word)
-}
-
-// Writes a word, a tab and a number.
-pub fn word_one(out: &mut [u8], w: &[u8], v: u64) -> usize
-    requires { ⌜ length (now w ++ tabbed (decimal v)) ≤ length (now out) ⌝ }
-    ensures { λ r. ⌜ Wrote (now (w .entry) ++ tabbed (decimal v)) (now (out .entry)) (now (out .exit)) r ⌝ }
-{
-    let k = put(out, w);
-    k + tab_number(&mut out[k..], v)
-}
-
-// Writes a word and two numbers, each after a tab.
-pub fn word_two(out: &mut [u8], w: &[u8], v: u64, n: u64) -> usize
-    requires { ⌜ length ((now w ++ tabbed (decimal v)) ++ tabbed (decimal n)) ≤ length (now out) ⌝ }
-    ensures { λ r. ⌜ Wrote ((now (w .entry) ++ tabbed (decimal v)) ++ tabbed (decimal n)) (now (out .entry)) (now (out .exit)) r ⌝ }
-{
-    let k = word_one(out, w, v);
-    k + tab_number(&mut out[k..], n)
-}
-
-// Writes a line's last field, a number.
-pub fn last_rest(out: &mut [u8], n: u64) -> usize
-    requires { ⌜ length (rest (decimal n ∷ [])) ≤ length (now out) ⌝ }
-    ensures { λ r. ⌜ Wrote (rest (decimal n ∷ [])) (now (out .entry)) (now (out .exit)) r ⌝ }
-{
-    let k = tab_number(out, n);
-    k + put_byte(&mut out[k..], 10)
-}
-
-// Writes a line's last two fields: a number, or a word where it is lacking; and a number.
-fn ticks_rest(out: &mut [u8], c: bool, t: u64, w: &[u8], n: u64) -> usize
-    requires { ⌜ length (rest (numberOr c t (now w) ∷ decimal n ∷ [])) ≤ length (now out) ⌝ }
-    ensures { λ r. ⌜ Wrote (rest (numberOr c t (now (w .entry)) ∷ decimal n ∷ [])) (now (out .entry)) (now (out .exit)) r ⌝ }
-{
-    let k = tab_choice(out, c, t, w);
-    k + last_rest(&mut out[k..], n)
+    let held = letters::pick(c == 2, b"nowait", b"held");
+    let late = letters::pick(c == 1, b"late", held);
+    let word = letters::pick(c == 0, b"fits", late);
+    letters::tab_word(out, word)
 }
 
 // Writes a task's answer to the line's end.
@@ -228,7 +107,7 @@ fn task_rest(out: &mut [u8], a: TaskAnswer) -> usize
 {
     let p = task_parts(a);
     let k = tab_answer(out, p.code);
-    k + ticks_rest(&mut out[k..], p.found, p.ticks, b"-", p.rounds)
+    k + letters::ticks_rest(&mut out[k..], p.found, p.ticks, b"-", p.rounds)
 }
 
 // Writes a wait's place and answer to the line's end.
@@ -237,8 +116,8 @@ fn wait_rest(out: &mut [u8], place: u64, a: Answer) -> usize
     ensures { λ r. ⌜ Wrote (rest (decimal place ∷ waitFields a)) (now (out .entry)) (now (out .exit)) r ⌝ }
 {
     let p = parts_of(a);
-    let k = tab_number(out, place);
-    k + ticks_rest(&mut out[k..], p.found, p.ticks, b"none", p.rounds)
+    let k = letters::tab_number(out, place);
+    k + letters::ticks_rest(&mut out[k..], p.found, p.ticks, b"none", p.rounds)
 }
 
 // Writes the first line.
@@ -246,7 +125,7 @@ pub fn head_line(out: &mut [u8]) -> usize
     requires { ⌜ length headText ≤ length (now out) ⌝ }
     ensures { λ r. ⌜ Wrote headText (now (out .entry)) (now (out .exit)) r ⌝ }
 {
-    put(out, b"verdict\t1\n")
+    letters::put(out, b"verdict\t1\n")
 }
 
 // Writes a VCPU's line.
@@ -255,7 +134,7 @@ pub fn vcpu_line(out: &mut [u8], v: u64, a: Answer) -> usize
     ensures { λ r. ⌜ Wrote (vcpuText v a) (now (out .entry)) (now (out .exit)) r ⌝ }
 {
     let b = TaskAnswer::Searched(a);
-    let k = word_one(out, b"vcpu", v);
+    let k = letters::word_one(out, b"vcpu", v);
     k + task_rest(&mut out[k..], b)
 }
 
@@ -264,7 +143,7 @@ pub fn wait_line(out: &mut [u8], v: u64, n: u64, place: u64, a: Answer) -> usize
     requires { ⌜ length (waitText v n place a) ≤ length (now out) ⌝ }
     ensures { λ r. ⌜ Wrote (waitText v n place a) (now (out .entry)) (now (out .exit)) r ⌝ }
 {
-    let k = word_two(out, b"wait", v, n);
+    let k = letters::word_two(out, b"wait", v, n);
     k + wait_rest(&mut out[k..], place, a)
 }
 
@@ -273,7 +152,7 @@ pub fn task_line(out: &mut [u8], v: u64, n: u64, a: TaskAnswer) -> usize
     requires { ⌜ length (taskText v n a) ≤ length (now out) ⌝ }
     ensures { λ r. ⌜ Wrote (taskText v n a) (now (out .entry)) (now (out .exit)) r ⌝ }
 {
-    let k = word_two(out, b"task", v, n);
+    let k = letters::word_two(out, b"task", v, n);
     k + task_rest(&mut out[k..], a)
 }
 
@@ -282,8 +161,8 @@ pub fn all_line(out: &mut [u8], fits: bool) -> usize
     requires { ⌜ length (allText fits) ≤ length (now out) ⌝ }
     ensures { λ r. ⌜ Wrote (allText fits) (now (out .entry)) (now (out .exit)) r ⌝ }
 {
-    let w = pick(fits, b"all\tfits\n", b"all\tlate\n");
-    put(out, w)
+    let w = letters::pick(fits, b"all\tfits\n", b"all\tlate\n");
+    letters::put(out, w)
 }
 
 // Writes the one line of a refused plan.
@@ -292,46 +171,17 @@ pub fn refused_line(out: &mut [u8], r: Refusal, l: u64) -> usize
     ensures { λ s. ⌜ Wrote (refusedLine r l) (now (out .entry)) (now (out .exit)) s ⌝ }
 {
     let n = number_of(r);
-    let k = word_one(out, b"refused", n);
-    k + last_rest(&mut out[k..], l)
-}
-
-// The number of digits of n.
-pub fn number_size(n: u64) -> usize
-    ensures { λ r. ⌜ Sized (decimal n) 20 r ⌝ }
-{
-    if n < 10 {
-        return 1;
-    }
-    number_size(n / 10) + 1
-}
-
-fn choice_size(c: bool, n: u64, w: &[u8]) -> usize
-    requires { ⌜ length (now w) ≤ 20 ⌝ }
-    ensures { λ r. ⌜ Sized (numberOr c n (now (w .entry))) 20 r ⌝ }
-{
-    if c {
-        return number_size(n);
-    }
-    w.len()
+    let k = letters::word_one(out, b"refused", n);
+    k + letters::last_rest(&mut out[k..], l)
 }
 
 fn answer_size(c: u64) -> usize
     ensures { λ r. ⌜ Sized (answerWord c) 6 r ⌝ }
 {
-    let held = pick(c == 2, b"nowait", b"held");
-    let late = pick(c == 1, b"late", held);
-    let word = pick(c == 0, b"fits", late);
+    let held = letters::pick(c == 2, b"nowait", b"held");
+    let late = letters::pick(c == 1, b"late", held);
+    let word = letters::pick(c == 0, b"fits", late);
     word.len()
-}
-
-fn ticks_size(c: bool, t: u64, w: &[u8], n: u64) -> usize
-    requires { ⌜ length (now w) ≤ 20 ⌝ }
-    ensures { λ r. ⌜ Sized (rest (numberOr c t (now (w .entry)) ∷ decimal n ∷ [])) 43 r ⌝ }
-{
-    let x = choice_size(c, t, w);
-    let y = number_size(n);
-    x + (y + 1 + 1) + 1
 }
 
 fn task_rest_size(a: TaskAnswer) -> usize
@@ -339,7 +189,7 @@ fn task_rest_size(a: TaskAnswer) -> usize
 {
     let p = task_parts(a);
     let x = answer_size(p.code);
-    let y = ticks_size(p.found, p.ticks, b"-", p.rounds);
+    let y = letters::ticks_size(p.found, p.ticks, b"-", p.rounds);
     x + y + 1
 }
 
@@ -347,8 +197,8 @@ fn wait_rest_size(place: u64, a: Answer) -> usize
     ensures { λ r. ⌜ Sized (rest (decimal place ∷ waitFields a)) 64 r ⌝ }
 {
     let p = parts_of(a);
-    let x = number_size(place);
-    let y = ticks_size(p.found, p.ticks, b"none", p.rounds);
+    let x = letters::number_size(place);
+    let y = letters::ticks_size(p.found, p.ticks, b"none", p.rounds);
     x + y + 1
 }
 
@@ -364,7 +214,7 @@ pub fn vcpu_size(v: u64, a: Answer) -> usize
     ensures { λ r. ⌜ Sized (vcpuText v a) 75 r ⌝ }
 {
     let b = TaskAnswer::Searched(a);
-    let x = number_size(v);
+    let x = letters::number_size(v);
     let y = task_rest_size(b);
     x + y + 1 + 4
 }
@@ -372,8 +222,8 @@ pub fn vcpu_size(v: u64, a: Answer) -> usize
 pub fn wait_size(v: u64, n: u64, place: u64, a: Answer) -> usize
     ensures { λ r. ⌜ Sized (waitText v n place a) 110 r ⌝ }
 {
-    let x = number_size(v);
-    let y = number_size(n);
+    let x = letters::number_size(v);
+    let y = letters::number_size(n);
     let z = wait_rest_size(place, a);
     x + (y + z + 1) + 1 + 4
 }
@@ -381,8 +231,8 @@ pub fn wait_size(v: u64, n: u64, place: u64, a: Answer) -> usize
 pub fn task_size(v: u64, n: u64, a: TaskAnswer) -> usize
     ensures { λ r. ⌜ Sized (taskText v n a) 96 r ⌝ }
 {
-    let x = number_size(v);
-    let y = number_size(n);
+    let x = letters::number_size(v);
+    let y = letters::number_size(n);
     let z = task_rest_size(a);
     x + (y + z + 1) + 1 + 4
 }
@@ -397,7 +247,7 @@ pub fn refused_size(r: Refusal, l: u64) -> usize
     ensures { λ s. ⌜ Sized (refusedLine r l) 50 s ⌝ }
 {
     let n = number_of(r);
-    let x = number_size(n);
-    let y = number_size(l);
+    let x = letters::number_size(n);
+    let y = letters::number_size(l);
     x + (y + 1 + 1) + 1 + 7
 }

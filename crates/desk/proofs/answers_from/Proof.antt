@@ -1,7 +1,7 @@
 -- `answers_from` meets its contract.
 use mathlib.Core.Path.{refl}
 use borrow.Author.Needs.{needs}
-use Rattle.desk.specs.Tested.{tested-room, tested-in, tested-out}
+use Rattle.writers.specs.IntoLaws.{tested-room, tested-in, tested-out}
 use Rattle.desk.proofs.answers_from.Statement.{statement}
 use Rattle.desk.proofs.answers_from.Tie as tie
 

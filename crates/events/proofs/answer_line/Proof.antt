@@ -1,6 +1,6 @@
 -- `events::answer_line` meets its contract.
 use borrow.Author.Needs.{needs}
-use Rattle.writers.specs.WroteLaws.{wrote-as, fits-as}
+use Rattle.letters.specs.WroteLaws.{wrote-as, fits-as}
 use Rattle.events.specs.PartsLaws.{parts-text}
 use Rattle.events.proofs.answer_line.Statement.{statement}
 use Rattle.events.proofs.answer_line.Tie as tie

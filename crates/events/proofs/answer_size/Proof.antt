@@ -1,6 +1,6 @@
 -- `events::answer_size` meets its contract.
 use borrow.Author.Needs.{needs}
-use Rattle.writers.specs.SizeLaws.{sized-as}
+use Rattle.letters.specs.SizeLaws.{sized-as}
 use Rattle.events.specs.PartsLaws.{parts-text}
 use Rattle.events.proofs.answer_size.Statement.{statement}
 use Rattle.events.proofs.answer_size.Tie as tie

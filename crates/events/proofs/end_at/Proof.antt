@@ -3,7 +3,7 @@ use borrow.Author.Needs.{needs}
 use mathlib.Core.Path.{ap}
 use mathlib.Core.List.{_++_}
 use lib.ListN.{take}
-use Rattle.writers.specs.WroteLaws.{wrote-as}
+use Rattle.letters.specs.WroteLaws.{wrote-as}
 use Rattle.events.specs.Parts.{endText}
 use Rattle.events.specs.PartsLaws.{end-none, end-some}
 use Rattle.events.specs.LoopLaws.{room-as, wrote-nothing}

@@ -2,7 +2,7 @@
 use borrow.Author.Needs.{needs}
 use mathlib.Core.Path.{refl}
 use native.Mathlib.Omega.{arith}
-use Rattle.writers.specs.SizeLaws.{sized-as}
+use Rattle.letters.specs.SizeLaws.{sized-as}
 use Rattle.events.specs.PartsLaws.{end-none, end-some}
 use Rattle.events.proofs.end_size.Statement.{statement}
 use Rattle.events.proofs.end_size.Tie as tie

@@ -3,7 +3,7 @@ use borrow.Author.Needs.{needs}
 use native.Mathlib.Omega.{arith}
 use lib.ListN.{take}
 use Rattle.listing.specs.Listing.{line}
-use Rattle.writers.specs.WroteLaws.{joins, both-wrote}
+use Rattle.letters.specs.WroteLaws.{joins, both-wrote}
 use Rattle.lockboard.specs.Events.{answerFields}
 use Rattle.events.specs.LoopLaws.{start-fits, wrote-start}
 use Rattle.events.proofs.line_at.Statement.{statement}

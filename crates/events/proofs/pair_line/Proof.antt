@@ -4,7 +4,7 @@ use mathlib.Core.Path.{ap}
 use mathlib.Core.List.{[], _∷_}
 use Rattle.laws.specs.Decimal.{decimal}
 use Rattle.listing.specs.Listing.{line}
-use Rattle.writers.specs.WroteLaws.{wrote-as, fits-as}
+use Rattle.letters.specs.WroteLaws.{wrote-as, fits-as}
 use Rattle.events.specs.PartsLaws.{pair-bytes}
 use Rattle.events.proofs.pair_line.Statement.{statement}
 use Rattle.events.proofs.pair_line.Tie as tie

@@ -1,6 +1,6 @@
 -- `events::parts_line` meets its contract.
 use borrow.Author.Needs.{needs}
-use Rattle.writers.specs.WroteLaws.{wrote-as, fits-as}
+use Rattle.letters.specs.WroteLaws.{wrote-as, fits-as}
 use Rattle.events.specs.PartsLaws.{parts-none, parts-one, parts-two}
 use Rattle.events.proofs.parts_line.Statement.{statement}
 use Rattle.events.proofs.parts_line.Tie as tie

@@ -4,7 +4,8 @@ use mathlib.Core.List.{[], _∷_}
 use native.Mathlib.Omega.{arith}
 use Rattle.laws.specs.Decimal.{decimal}
 use Rattle.listing.specs.Listing.{wRefused}
-use Rattle.writers.specs.SizeLaws.{sized-as, line-sized, rest-sized, end-sized}
+use Rattle.letters.specs.SizeLaws.{sized-as, rest-sized, end-sized}
+use Rattle.writers.specs.SizeLaws.{line-sized}
 use Rattle.events.specs.Parts.{pairWord}
 use Rattle.events.specs.PartsLaws.{parts-none, parts-one, parts-two, sized-le, line-sized-by}
 use Rattle.events.proofs.parts_size.Statement.{statement}

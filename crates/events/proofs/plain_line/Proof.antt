@@ -1,6 +1,6 @@
 -- `events::plain_line` meets its contract.
 use borrow.Author.Needs.{needs}
-use Rattle.writers.specs.WroteLaws.{wrote-as, fits-as}
+use Rattle.letters.specs.WroteLaws.{wrote-as, fits-as}
 use Rattle.events.specs.PartsLaws.{plain-bytes}
 use Rattle.events.proofs.plain_line.Statement.{statement}
 use Rattle.events.proofs.plain_line.Tie as tie

@@ -3,7 +3,7 @@ use borrow.Author.Needs.{needs}
 use mathlib.Core.List.{[], _∷_}
 use Rattle.laws.specs.Decimal.{decimal}
 use Rattle.writers.specs.LineLaws.{line-two}
-use Rattle.writers.specs.WroteLaws.{first-fits, ends, rest-fits, both-fit, both-wrote}
+use Rattle.letters.specs.WroteLaws.{first-fits, ends, rest-fits, both-fit, both-wrote}
 use Rattle.events.proofs.two_line.Statement.{statement}
 use Rattle.events.proofs.two_line.Tie as tie
 

@@ -1,5 +1,5 @@
 -- `put_body` meets its contract.
-use Rattle.writers.specs.WroteLaws.{first-fits, ends, rest-fits, both-fit, both-wrote}
+use Rattle.letters.specs.WroteLaws.{first-fits, ends, rest-fits, both-fit, both-wrote}
 use Rattle.sizes.specs.TextLaws.{vcpus-joins}
 use borrow.Author.Needs.{needs}
 use Rattle.lister.proofs.put_body.Statement.{statement}

@@ -1,5 +1,5 @@
 -- `put_task` meets its contract.
-use Rattle.writers.specs.WroteLaws.{wrote-as, fits-as, first-fits, ends, rest-fits, both-fit, both-wrote}
+use Rattle.letters.specs.WroteLaws.{wrote-as, fits-as, first-fits, ends, rest-fits, both-fit, both-wrote}
 use Rattle.sizes.specs.TextLaws.{task-joins, task-text}
 use borrow.Author.Needs.{needs}
 use Rattle.lister.proofs.put_task.Statement.{statement}

@@ -1,5 +1,5 @@
 -- `put_vcpu` meets its contract.
-use Rattle.writers.specs.WroteLaws.{wrote-as, fits-as}
+use Rattle.letters.specs.WroteLaws.{wrote-as, fits-as}
 use Rattle.sizes.specs.TextLaws.{vcpu-text}
 use borrow.Author.Needs.{needs}
 use Rattle.lister.proofs.put_vcpu.Statement.{statement}

@@ -1,6 +1,6 @@
 -- `put_wait` meets its contract.
 use borrow.Author.Tests.{not-true, not-false}
-use Rattle.writers.specs.WroteLaws.{wrote-as, fits-as}
+use Rattle.letters.specs.WroteLaws.{wrote-as, fits-as}
 use Rattle.sizes.specs.TextLaws.{place-text, place-none}
 use Rattle.lister.specs.FilledLaws.{wrote-none}
 use borrow.Author.Needs.{needs}

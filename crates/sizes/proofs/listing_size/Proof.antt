@@ -1,5 +1,5 @@
 -- `listing_size` meets its contract.
-use Rattle.writers.specs.SizeLaws.{sized-as}
+use Rattle.letters.specs.SizeLaws.{sized-as}
 use Rattle.sizes.specs.TextLaws.{listing-joins, vcpus-joins, tasks-joins, all-text, both-sized}
 use borrow.Author.Needs.{needs}
 use Rattle.sizes.proofs.listing_size.Statement.{statement}

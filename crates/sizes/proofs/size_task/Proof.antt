@@ -1,5 +1,5 @@
 -- `size_task` meets its contract.
-use Rattle.writers.specs.SizeLaws.{sized-as}
+use Rattle.letters.specs.SizeLaws.{sized-as}
 use Rattle.sizes.specs.TextLaws.{task-text, task-joins, both-sized}
 use borrow.Author.Needs.{needs}
 use Rattle.sizes.proofs.size_task.Statement.{statement}

@@ -1,5 +1,5 @@
 -- `size_vcpu` meets its contract.
-use Rattle.writers.specs.SizeLaws.{sized-as}
+use Rattle.letters.specs.SizeLaws.{sized-as}
 use Rattle.sizes.specs.TextLaws.{vcpu-text}
 use borrow.Author.Needs.{needs}
 use Rattle.sizes.proofs.size_vcpu.Statement.{statement}

@@ -1,6 +1,6 @@
 -- `size_wait` meets its contract.
 use borrow.Author.Tests.{not-true, not-false}
-use Rattle.writers.specs.SizeLaws.{sized-as}
+use Rattle.letters.specs.SizeLaws.{sized-as}
 use Rattle.sizes.specs.TextLaws.{place-text, place-none, none-sized}
 use borrow.Author.Needs.{needs}
 use Rattle.sizes.proofs.size_wait.Statement.{statement}

@@ -1,6 +1,6 @@
 -- `writers::all_line` meets its contract. Assumes nothing.
 use borrow.Author.Needs.{needs}
-use Rattle.writers.specs.WroteLaws.{wrote-as, fits-as}
+use Rattle.letters.specs.WroteLaws.{wrote-as, fits-as}
 use Rattle.writers.specs.LineLaws.{all-bytes}
 use Rattle.writers.proofs.all_line.Statement.{statement}
 use Rattle.writers.proofs.all_line.Tie as tie

@@ -1,7 +1,7 @@
 -- `writers::refused_line` meets its contract. Assumes nothing.
 use borrow.Author.Needs.{needs}
 use Rattle.writers.specs.LineLaws.{refused-joins}
-use Rattle.writers.specs.WroteLaws.{first-fits, ends, rest-fits, both-fit, both-wrote}
+use Rattle.letters.specs.WroteLaws.{first-fits, ends, rest-fits, both-fit, both-wrote}
 use Rattle.writers.proofs.refused_line.Statement.{statement}
 use Rattle.writers.proofs.refused_line.Tie as tie
 

@@ -4,7 +4,8 @@ use mathlib.Core.List.{[], _∷_}
 use Rattle.laws.specs.Decimal.{decimal}
 use Rattle.listing.specs.Listing.{wRefused}
 use Rattle.writers.specs.LineLaws.{refused-text}
-use Rattle.writers.specs.SizeLaws.{sized-as, line-sized, rest-sized, end-sized}
+use Rattle.letters.specs.SizeLaws.{sized-as, rest-sized, end-sized}
+use Rattle.writers.specs.SizeLaws.{line-sized}
 use Rattle.writers.proofs.refused_size.Statement.{statement}
 use Rattle.writers.proofs.refused_size.Tie as tie
 

@@ -1,8 +1,8 @@
 -- `writers::tab_answer` meets its contract. Assumes nothing.
 use borrow.Author.Needs.{needs}
 use mathlib.Core.Path.{ap}
-use Rattle.writers.specs.Lines.{tabbed}
-use Rattle.writers.specs.WroteLaws.{wrote-as, fits-as}
+use Rattle.letters.specs.Tabbed.{tabbed}
+use Rattle.letters.specs.WroteLaws.{wrote-as, fits-as}
 use Rattle.writers.specs.LineLaws.{answer-word}
 use Rattle.writers.proofs.tab_answer.Statement.{statement}
 use Rattle.writers.proofs.tab_answer.Tie as tie

@@ -4,7 +4,7 @@ use Rattle.laws.specs.Decimal.{decimal}
 use Rattle.listing.specs.Listing.{taskFields}
 use Rattle.model.specs.Line.{wTask}
 use Rattle.writers.specs.LineLaws.{line-three}
-use Rattle.writers.specs.WroteLaws.{first-fits, ends, rest-fits, both-fit, both-wrote}
+use Rattle.letters.specs.WroteLaws.{first-fits, ends, rest-fits, both-fit, both-wrote}
 use Rattle.writers.proofs.task_line.Statement.{statement}
 use Rattle.writers.proofs.task_line.Tie as tie
 

@@ -1,7 +1,7 @@
 -- `writers::task_rest` meets its contract. Assumes nothing.
 use borrow.Author.Needs.{needs}
 use Rattle.writers.specs.LineLaws.{task-rest}
-use Rattle.writers.specs.WroteLaws.{first-fits, ends, rest-fits, both-fit, both-wrote}
+use Rattle.letters.specs.WroteLaws.{first-fits, ends, rest-fits, both-fit, both-wrote}
 use Rattle.writers.proofs.task_rest.Statement.{statement}
 use Rattle.writers.proofs.task_rest.Tie as tie
 

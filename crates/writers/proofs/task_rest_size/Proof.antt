@@ -1,7 +1,7 @@
 -- `writers::task_rest_size` meets its contract. Assumes nothing.
 use borrow.Author.Needs.{needs}
 use Rattle.writers.specs.LineLaws.{task-rest}
-use Rattle.writers.specs.SizeLaws.{tabbed-sized}
+use Rattle.letters.specs.SizeLaws.{tabbed-sized}
 use Rattle.writers.proofs.task_rest_size.Statement.{statement}
 use Rattle.writers.proofs.task_rest_size.Tie as tie
 

@@ -4,7 +4,7 @@ use Rattle.laws.specs.Decimal.{decimal}
 use Rattle.listing.specs.Listing.{answerFields}
 use Rattle.model.specs.Line.{wVcpu}
 use Rattle.writers.specs.LineLaws.{line-two}
-use Rattle.writers.specs.WroteLaws.{first-fits, ends, rest-fits, both-fit, both-wrote}
+use Rattle.letters.specs.WroteLaws.{first-fits, ends, rest-fits, both-fit, both-wrote}
 use Rattle.writers.proofs.vcpu_line.Statement.{statement}
 use Rattle.writers.proofs.vcpu_line.Tie as tie
 

@@ -4,7 +4,8 @@ use mathlib.Core.List.{_∷_}
 use Rattle.laws.specs.Decimal.{decimal}
 use Rattle.model.specs.Line.{wVcpu}
 use Rattle.listing.specs.Listing.{answerFields}
-use Rattle.writers.specs.SizeLaws.{line-sized, rest-sized}
+use Rattle.letters.specs.SizeLaws.{rest-sized}
+use Rattle.writers.specs.SizeLaws.{line-sized}
 use Rattle.writers.proofs.vcpu_size.Statement.{statement}
 use Rattle.writers.proofs.vcpu_size.Tie as tie
 

@@ -2,7 +2,7 @@
 use borrow.Author.Needs.{needs}
 use Rattle.laws.specs.Decimal.{decimal}
 use Rattle.writers.specs.LineLaws.{wait-rest}
-use Rattle.writers.specs.WroteLaws.{first-fits, ends, rest-fits, both-fit, both-wrote}
+use Rattle.letters.specs.WroteLaws.{first-fits, ends, rest-fits, both-fit, both-wrote}
 use Rattle.writers.proofs.wait_rest.Statement.{statement}
 use Rattle.writers.proofs.wait_rest.Tie as tie
 

@@ -2,7 +2,7 @@
 use borrow.Author.Needs.{needs}
 use Rattle.laws.specs.Decimal.{decimal}
 use Rattle.writers.specs.LineLaws.{wait-rest}
-use Rattle.writers.specs.SizeLaws.{tabbed-sized}
+use Rattle.letters.specs.SizeLaws.{tabbed-sized}
 use Rattle.writers.proofs.wait_rest_size.Statement.{statement}
 use Rattle.writers.proofs.wait_rest_size.Tie as tie
 

@@ -3,7 +3,8 @@ use borrow.Author.Needs.{needs}
 use mathlib.Core.List.{_∷_}
 use Rattle.laws.specs.Decimal.{decimal}
 use Rattle.listing.specs.Listing.{wWait, waitFields}
-use Rattle.writers.specs.SizeLaws.{line-sized, rest-sized}
+use Rattle.letters.specs.SizeLaws.{rest-sized}
+use Rattle.writers.specs.SizeLaws.{line-sized}
 use Rattle.writers.proofs.wait_size.Statement.{statement}
 use Rattle.writers.proofs.wait_size.Tie as tie
 

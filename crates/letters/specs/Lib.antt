@@ -1,0 +1,6 @@
+pub mod Wrote
+pub mod WroteLaws
+pub mod Tabbed
+pub mod TabbedLaws
+pub mod DigitLaws
+pub mod SizeLaws
