@@ -20,7 +20,8 @@ use Rattle.keeps.specs.Ledger.{ledger}
 use Rattle.keeps.specs.LedgerLaws.{ledger-balance}
 use Rattle.keeps.specs.Locality.{Untouched, untouched, ask-local, free-local}
 use Rattle.keeps.specs.Tested.{boardOn, fresh-board-on}
-use Rattle.boards.specs.Entered.{Made, factsFrom, freshFor, stepFor}
+use Rattle.boards.specs.declared.FreshAnswer.the-variants.{Made}
+use Rattle.boards.specs.Entered.{factsFrom, freshFor, stepFor}
 use Rattle.boards.specs.EnteredLaws.{runFor, step-other, step-given, fair-from, fresh-of, tested-good, tested-other, run-answers}
 
 module _ (r : PlanRecord) (t : Tables) where

@@ -9,11 +9,17 @@ use Rattle.laws.specs.Once.{once}
 use Rattle.tables.specs.declared.PlanRecord.{PlanRecord}
 use Rattle.tables.specs.Layout.{Tables}
 use Rattle.tables.specs.Given.{isGiven}
-use Rattle.reader.specs.Into.{PlanAnswer, planAnswer, tablesAfter}
-use Rattle.scan.specs.Scan.{Line, lineAt}
-use Rattle.entries.specs.Asked.{RowAnswer, TaskRowAnswer, FigureAnswer, vcpuAsked, waitAsked, taskAsked, responseAsked}
+use Rattle.reader.specs.declared.PlanAnswer.{PlanAnswer}
+use Rattle.reader.specs.Into.{planAnswer, tablesAfter}
+use Rattle.scan.specs.declared.Line.{Line}
+use Rattle.scan.specs.Scan.{lineAt}
+use Rattle.entries.specs.declared.RowAnswer.{RowAnswer}
+use Rattle.entries.specs.declared.TaskRowAnswer.{TaskRowAnswer}
+use Rattle.entries.specs.declared.FigureAnswer.{FigureAnswer}
+use Rattle.entries.specs.Asked.{vcpuAsked, waitAsked, taskAsked, responseAsked}
 use Rattle.listing.specs.Listing.{verdictText}
-use Rattle.writers.specs.Into.{TextAnswer, textAnswer, textAfter}
+use Rattle.writers.specs.declared.TextAnswer.{TextAnswer}
+use Rattle.writers.specs.Into.{textAnswer, textAfter}
 use Rattle.lister.specs.Asked.{listingAsked, listingLeft}
 use Rattle.lockboard.specs.declared.Board.{Board}
 use Rattle.lockboard.specs.declared.Event.{Event}
@@ -21,9 +27,13 @@ use Rattle.lockboard.specs.declared.Event.the-variants.{Ask, Free, Use, Top, Sh
 use Rattle.lockboard.specs.declared.Outcome.{Outcome}
 use Rattle.lockboard.specs.declared.BoardAnswer.{BoardAnswer}
 use Rattle.lockboard.specs.Events.{boardText}
-use Rattle.boards.specs.Entered.{FreshBoard, freshFor, stepFor}
-use Rattle.sheets.specs.Sheet.{Task, tablesOf, sheetsAfter}
-use Rattle.sheets.specs.Replies.{Question, Replied, replyTo}
+use Rattle.boards.specs.declared.FreshBoard.{FreshBoard}
+use Rattle.boards.specs.Entered.{freshFor, stepFor}
+use Rattle.sheets.specs.declared.Task.{Task}
+use Rattle.sheets.specs.Sheet.{tablesOf, sheetsAfter}
+use Rattle.sheets.specs.declared.Question.{Question}
+use Rattle.sheets.specs.declared.Replied.{Replied}
+use Rattle.sheets.specs.Replies.{replyTo}
 use Rattle.exports.specs.Exported.{exported}
 
 -- an answer and what is left, two of each
