@@ -426,10 +426,9 @@ pub fn put_answers(
         let next = at + k + 1;
         let o = on_line(t, policy, choice, view, &rest[..k]);
         let a = o.answer;
-        let left = o.board;
         let m = line_at(out, n, a);
         n = m;
-        t = left;
+        t = o.board;
         at = next;
     }
 }

@@ -61,15 +61,15 @@ slice-aggregate-on-line c = let k = c .before .before .cut in head-count lf _ (k
 
 line-at-requires : tie.Need-line-at-requires Inv-loop μ-loop
 line-at-requires c κs =
-    let e = c .before .before .before .before .before .before .before .before .before .before .before in
+    let e = c .before .before .before .before .before .before .before .before .before .before in
     let a = e .args in
     let s = a .src .now in
-    let l = c .before .before .before .before .before .before .before .loop in
-    let k = c .before .before .before .before .before .cut in
-    let o = c .before .before .on-line in
+    let l = c .before .before .before .before .before .before .loop in
+    let k = c .before .before .before .before .cut in
+    let o = c .before .on-line in
     let F = factsIn (a .policy) (a .choice) (a .view .now) in
     put-room (e .pre) (l .inv .1) (line (answerFields (o .result .answer))) (repliesTo F (o .result .board) (drop (l .at + k .result + 1) s))
-    (replies-next s (l .at) (k .result) _ (take-rest (l .at) s) (k .ensures) F (l .t) (c .before .before .before .before .if1 .left) (o .result) (o .ensures))
+    (replies-next s (l .at) (k .result) _ (take-rest (l .at) s) (k .ensures) F (l .t) (c .before .before .before .if1 .left) (o .result) (o .ensures))
 
 loop-less : tie.Need-loop-less Inv-loop μ-loop
 loop-less c = omega (arith, fits (c .before .before .before .before .before .before .before))
@@ -86,7 +86,7 @@ loop-again c =
       fits (c .before .before .before .before .before .before .before),
       put-more (e .pre) (l .inv .1) (line (answerFields (o .result .answer))) (repliesTo F (o .result .board) (drop (l .at + k .result + 1) s))
           (replies-next s (l .at) (k .result) _ (take-rest (l .at) s) (k .ensures) F (l .t) (c .before .before .before .before .before .before .before .if1 .left) (o .result) (o .ensures))
-          (c .before .before .line-at .ensures),
+          (c .before .before .before .line-at .ensures),
     )
 
 pub put-answers-spec : {M : Type 1} → statement M
