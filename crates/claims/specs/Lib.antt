@@ -1,3 +1,4 @@
 pub mod Worked
+pub mod Reports
 pub mod Boards
 pub mod Once

@@ -1,6 +1,6 @@
 -- "For an accepted plan a response time is reported exactly when some whole number of ticks from zero to the period is at least the demand that this number gives,
 -- and it is the smallest such number. Remote waits obey the same rule. A task whose demand rests on a wait without such a number is named so."
--- Said of what the calls answer, by specs/Asked.
+-- Said of what the calls answer (entries/Asked).
 use Prim.Native.Nat.{ℕ, _≤_, _<_}
 use mathlib.Core.Path.{_≡_, refl, ap, sym, _∙_}
 use mathlib.Core.Bool.{Bool, true, false, _||_, false≢true, true≢false}
@@ -32,7 +32,10 @@ use Rattle.figures.specs.Demands.{vcpu-demand, wait-demand, task-demand}
 use Rattle.figures.specs.declared.TaskAnswer.{TaskAnswer}
 use Rattle.figures.specs.declared.TaskAnswer.the-variants.{Searched, NoWait, Held}
 use Rattle.figures.specs.Answers.{vcpuAnswer, waitAnswer, taskAnswer, isLate, remoteWaits, lacksWait, isHeld}
-use Rattle.entries.specs.Asked.{Row, NoRow, TaskRow, NoTaskRow, Figure, NoFigure, hasPlace, vcpuRowOf, waitRowOf, taskRowOf, responseRowOf, vcpuAsked, waitAsked, taskAsked, responseAsked}
+use Rattle.entries.specs.declared.RowAnswer.the-variants.{Row, NoRow}
+use Rattle.entries.specs.declared.TaskRowAnswer.the-variants.{TaskRow, NoTaskRow}
+use Rattle.entries.specs.declared.FigureAnswer.the-variants.{Figure, NoFigure}
+use Rattle.entries.specs.Asked.{hasPlace, vcpuRowOf, waitRowOf, taskRowOf, responseRowOf, vcpuAsked, waitAsked, taskAsked, responseAsked}
 
 -- the plan in lent tables
 abbrev pub planOf : PlanRecord → Tables → System
