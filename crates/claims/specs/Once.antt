@@ -34,7 +34,7 @@ use Rattle.sheets.specs.Sheet.{tablesOf, sheetsAfter}
 use Rattle.sheets.specs.declared.Question.{Question}
 use Rattle.sheets.specs.declared.Replied.{Replied}
 use Rattle.sheets.specs.Replies.{replyTo}
-use Rattle.exports.specs.Exported.{exported}
+use Rattle.codes.specs.Exported.{exported}
 
 -- an answer and what is left, two of each
 pub both-once : {A B : Type 0} {a b x : A} {u w y : B} → (a ≡ x) × (u ≡ y) → (b ≡ x) × (w ≡ y) → (a ≡ b) × (u ≡ w)

@@ -1,5 +1,3 @@
 pub mod Ample
 pub mod Read
-pub mod Boarded
 pub mod Told
-pub mod Whole

@@ -25,7 +25,7 @@ use Rattle.writers.specs.declared.TextAnswer.{TextAnswer}
 use Rattle.writers.specs.Into.{textAnswer, textAfter}
 use Rattle.desk.specs.Ample.{Ample}
 use Rattle.desk.specs.Read.{isAccepted, recordIn, refusalIn, lineIn, accepted-is, refused-is, Lies, accepted-lies, refused-reads}
-use Rattle.desk.specs.Boarded.{answersFor}
+use Rattle.rooms.specs.Boarded.{answersFor}
 
 -- of an accepted plan its listing, or the answers to events; of a refused one its line
 abbrev pub listingOr : PlanAnswer → Tables → List ℕ

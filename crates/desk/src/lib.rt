@@ -18,12 +18,12 @@ ghost use Rattle.lockboard.specs.Facts.{factsOf};
 ghost use Rattle.lockboard.specs.View.{factsIn};
 ghost use Rattle.lockboard.specs.Events.{eventsText, boardText};
 ghost use Rattle.letters.specs.Wrote.{Wrote};
-ghost use Rattle.writers.specs.Into.{textAnswer, textAfter};
+ghost use Rattle.writers.specs.Into.{textAnswer, textAfter, bytesIn};
 ghost use Rattle.writers.specs.IntoLaws.{RoomFor};
 ghost use Rattle.desk.specs.Read.{isAccepted, recordIn, refusalIn, lineIn};
 ghost use Rattle.desk.specs.Told.{Sure, listingOr, answersOr};
-ghost use Rattle.desk.specs.Whole.{bytesIn, verdictBytes, boardBytes, Counted};
-ghost use Rattle.desk.specs.Boarded.{answersOn, answersFor};
+ghost use Rattle.rooms.specs.Whole.{verdictBytes, boardBytes, Counted};
+ghost use Rattle.rooms.specs.Boarded.{answersOn, answersFor};
 
 // Is the plan accepted?
 fn is_accepted(a: PlanAnswer) -> bool

@@ -15,8 +15,9 @@ use Rattle.model.specs.declared.Policy.{Policy}
 use Rattle.model.specs.declared.OverrunChoice.{OverrunChoice}
 use Rattle.seats.specs.Seats as seats
 use Rattle.walks.specs.Walks as walks
-use Rattle.supplies.specs.Supplies as supplies
-use Rattle.supplies.specs.Supplies.{nextMark, useFaultAt, askFaultAt, freeFaultAt, mayHaveAt, localNextAt, priorityAt, vcpuPriorityAt, vcpuGoodAt}
+use Rattle.supplies.specs.Supplies.{nextMark, useFaultAt, askFaultAt, freeFaultAt, vcpuGoodAt}
+use Rattle.turns.specs.Turns as turns
+use Rattle.turns.specs.Turns.{mayHaveAt, localNextAt, priorityAt, vcpuPriorityAt}
 use Rattle.lockboard.specs.View.{factsIn}
 use Rattle.lockboard.specs.Board.{Board, withStopped, holdsGlobal, supply, mustStop, settled, useFault, topFault, askFault, freeFault, isBusy, mayHave, passes, asked, used, topped, freed, Nobody, To, nextOf, Ask, Free, Use, Top, Show, answered, refused, step, complete, seat, withHolder, withWait, Granted, Waits, nextGlobal, waiterV, waiterN, nextLocal, localN, localWaiter, freedGlobal, freedLocal, showFault, heldGlobal, heldLocal, raisedBy, taskPriority, vcpuPriority, Shows, good}
 
@@ -27,12 +28,12 @@ unfolding settled mustStop factsIn holdsGlobal
 settled-in p o t b = refl
 
 -- WHO IS NEXT: the global waiter
-pub global-next : (b : Board) (m : ℕ) → let v = supplies.waiterV (b .waits) m in nextOf v (supplies.waiterN (b .waits) m v) ≡ nextGlobal b m
+pub global-next : (b : Board) (m : ℕ) → let v = turns.waiterV (b .waits) m in nextOf v (turns.waiterN (b .waits) m v) ≡ nextGlobal b m
 unfolding nextGlobal waiterV waiterN
-global-next b m = go (eqb (supplies.waiterV (b .waits) m) 0) refl
+global-next b m = go (eqb (turns.waiterV (b .waits) m) 0) refl
   where
-    go : (c : Bool) → eqb (supplies.waiterV (b .waits) m) 0 ≡ c →
-        nextOf (supplies.waiterV (b .waits) m) (supplies.waiterN (b .waits) m (supplies.waiterV (b .waits) m)) ≡ nextGlobal b m
+    go : (c : Bool) → eqb (turns.waiterV (b .waits) m) 0 ≡ c →
+        nextOf (turns.waiterV (b .waits) m) (turns.waiterN (b .waits) m (turns.waiterV (b .waits) m)) ≡ nextGlobal b m
     go true e = rw e
     go false e = rw e
 

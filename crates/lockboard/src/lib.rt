@@ -202,7 +202,7 @@ impl Board {
         requires { ⌜ (v ≤ 16) × (n ≤ 8) × (m ≤ 32) ⌝ }
         ensures { λ r. ⌜ ((o : OverrunChoice) → r ≡ asked (factsIn policy o (now (view .entry))) self v n m) ⌝ }
     {
-        if supplies::may_have(view, &self.holder, v, n, m) {
+        if turns::may_have(view, &self.holder, v, n, m) {
             let b = self.put_holder(m, seats::seat(v, n));
             return b.complete(policy, view, BoardAnswer::Granted);
         }
@@ -269,8 +269,8 @@ impl Board {
         requires { ⌜ m ≤ 32 ⌝ }
         ensures { λ r. ⌜ ((o : OverrunChoice) → r ≡ freedGlobal (factsIn policy o (now (view .entry))) self m) ⌝ }
     {
-        let v = supplies::waiter_v(&self.waits, m);
-        let n = supplies::waiter_n(&self.waits, v, m);
+        let v = turns::waiter_v(&self.waits, m);
+        let n = turns::waiter_n(&self.waits, v, m);
         let next = next_of(v, n);
         let b = self.hand(m, v, n);
         b.complete(policy, view, BoardAnswer::Freed(next))
@@ -293,7 +293,7 @@ impl Board {
         ensures { λ r. ⌜ ((o : OverrunChoice) → r ≡ freedLocal (factsIn policy o (now (view .entry))) self v m) ⌝ }
     {
         let after = self.put_holder(m, 0);
-        let n = supplies::next_local(view, &after.holder, &after.waits, v);
+        let n = turns::next_local(view, &after.holder, &after.waits, v);
         let next = next_of(v, n);
         let b = after.grant(v, n);
         b.complete(policy, view, BoardAnswer::Freed(next))
@@ -342,8 +342,8 @@ impl Board {
         if !seats::has_task(view, v, n) {
             return BoardAnswer::Refused(Refusal::Unknown);
         }
-        let task = supplies::task_priority(view, &self.holder, &self.waits, v, n);
-        let vcpu = supplies::vcpu_priority(view, &self.holder, v);
+        let task = turns::task_priority(view, &self.holder, &self.waits, v, n);
+        let vcpu = turns::vcpu_priority(view, &self.holder, v);
         BoardAnswer::Shows { task, vcpu }
     }
 

@@ -18,3 +18,8 @@ textAnswer t o = elim (hasRoom t o) [ true ↦ Written (length t) | false ↦ Re
 
 unfoldable pub textAfter : List ℕ → List ℕ → List ℕ
 textAfter t o = elim (hasRoom t o) [ true ↦ t ++ drop (length t) o | false ↦ o ]
+
+-- how many bytes a call has written
+abbrev pub bytesIn : TextAnswer → ℕ
+bytesIn (Written n) = n
+bytesIn (Refused r) = 0

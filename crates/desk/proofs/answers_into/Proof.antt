@@ -1,7 +1,7 @@
 -- `answers_into` meets its contract.
 use borrow.Author.Needs.{needs}
 use Rattle.checker.specs.FitLaws.{given-fit}
-use Rattle.desk.specs.Boarded.{view-short, view-text}
+use Rattle.rooms.specs.Boarded.{view-short, view-text}
 use Rattle.desk.proofs.answers_into.Statement.{statement}
 use Rattle.desk.proofs.answers_into.Tie as tie
 

@@ -4,8 +4,8 @@ use mathlib.Core.Path.{ap, _∙_}
 use native.Mathlib.Nat.{le-refl, lt-of-le-of-lt}
 use lib.Dec.{lit<}
 use borrow.Author.Needs.{needs}
-use Rattle.desk.specs.Whole.{verdictBytes, verdict-fits}
-use Rattle.exports.specs.Exported.{exported, answer-bound, exported-fits, read-back}
+use Rattle.rooms.specs.Whole.{verdictBytes, verdict-fits}
+use Rattle.codes.specs.Exported.{exported, answer-bound, exported-fits, read-back}
 use Rattle.exports.proofs.ryefrost_verdict.Statement.{statement}
 use Rattle.exports.proofs.ryefrost_verdict.Tie as tie
 

@@ -1,8 +1,8 @@
 use borrow.Author.Tests.{eq-eqb, ne-eqb}
 use Rattle.walks.specs.WalkLaws.{column-flat}
 use borrow.Author.Needs.{needs}
-use Rattle.supplies.proofs.waiter_n.Statement.{statement}
-use Rattle.supplies.proofs.waiter_n.Tie as tie
+use Rattle.turns.proofs.waiter_n.Statement.{statement}
+use Rattle.turns.proofs.waiter_n.Tie as tie
 
 returns : tie.Need-returns
 returns c = (rw (eq-eqb _ _ (c .if1 .taken)), search needs)

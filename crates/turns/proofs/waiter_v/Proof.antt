@@ -1,7 +1,7 @@
 use Rattle.walks.specs.WalkLaws.{rows-flat}
 use borrow.Author.Needs.{needs}
-use Rattle.supplies.proofs.waiter_v.Statement.{statement}
-use Rattle.supplies.proofs.waiter_v.Tie as tie
+use Rattle.turns.proofs.waiter_v.Statement.{statement}
+use Rattle.turns.proofs.waiter_v.Tie as tie
 
 returns : tie.Need-returns
 returns c = let a = c .before .before .before .args in

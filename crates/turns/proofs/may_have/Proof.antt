@@ -1,7 +1,7 @@
 use borrow.Author.Needs.{needs}
 use mathlib.Core.Path.{sym, _∙_}
-use Rattle.supplies.proofs.may_have.Statement.{statement}
-use Rattle.supplies.proofs.may_have.Tie as tie
+use Rattle.turns.proofs.may_have.Statement.{statement}
+use Rattle.turns.proofs.may_have.Tie as tie
 
 returns : tie.Need-returns
 returns c = rw (sym (c .before .before .is-global .ensures) ∙ c .before .if1 .taken, c .holder .ensures)

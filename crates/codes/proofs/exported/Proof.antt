@@ -6,12 +6,12 @@ use mir.Syntax.{w64}
 use mir.Val.{toZ}
 use mir.Facts.{toZ-pos}
 use borrow.Author.Needs.{needs}
-use Rattle.desk.specs.Whole.{bytesIn}
+use Rattle.writers.specs.Into.{bytesIn}
 use Rattle.writers.specs.declared.TextAnswer.{TextAnswer}
 use Rattle.writers.specs.declared.TextAnswer.the-variants.{Written, Refused}
-use Rattle.exports.specs.Exported.{exported, negated-fits, read-back}
-use Rattle.exports.proofs.exported.Statement.{statement}
-use Rattle.exports.proofs.exported.Tie as tie
+use Rattle.codes.specs.Exported.{exported, negated-fits, read-back}
+use Rattle.codes.proofs.exported.Statement.{statement}
+use Rattle.codes.proofs.exported.Tie as tie
 
 counted : {a : TextAnswer} {n : ℕ} → a ≡ Written n → bytesIn a < 2 ^ 63 → n < 2 ^ 63
 counted e h = subst (λ x. bytesIn x < 2 ^ 63) e h

@@ -2,9 +2,9 @@
 use mathlib.Core.Path.{sym, ap}
 use borrow.Author.Needs.{needs}
 use Rattle.model.specs.Refusals.{numberOf}
-use Rattle.exports.specs.Exported.{negated}
-use Rattle.exports.proofs.negated.Statement.{statement}
-use Rattle.exports.proofs.negated.Tie as tie
+use Rattle.codes.specs.Exported.{negated}
+use Rattle.codes.proofs.negated.Statement.{statement}
+use Rattle.codes.proofs.negated.Tie as tie
 
 pub negated-spec : {M : Type 1} → statement M
 unfolding negated numberOf

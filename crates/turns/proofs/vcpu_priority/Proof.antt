@@ -1,7 +1,7 @@
 use mathlib.Core.Path.{sym, _∙_}
 use borrow.Author.Needs.{needs}
-use Rattle.supplies.proofs.vcpu_priority.Statement.{statement}
-use Rattle.supplies.proofs.vcpu_priority.Tie as tie
+use Rattle.turns.proofs.vcpu_priority.Statement.{statement}
+use Rattle.turns.proofs.vcpu_priority.Tie as tie
 
 returns : tie.Need-returns
 returns c = rw (sym (c .before .holds-global .ensures) ∙ c .if1 .taken)

@@ -17,14 +17,8 @@ use Rattle.order.specs.Bound.{refused-bound, refused-line, verdict-bound}
 use Rattle.lockboard.specs.Events.{eventsText, boardText}
 use Rattle.letters.specs.Wrote.{Wrote}
 use Rattle.writers.specs.declared.TextAnswer.{TextAnswer}
-use Rattle.writers.specs.declared.TextAnswer.the-variants.{Written, Refused}
-use Rattle.writers.specs.Into.{hasRoom, textAnswer, textAfter}
-use Rattle.desk.specs.Boarded.{answersFor, plan-bound}
-
--- how many bytes a call has written
-abbrev pub bytesIn : TextAnswer → ℕ
-bytesIn (Written n) = n
-bytesIn (Refused r) = 0
+use Rattle.writers.specs.Into.{textAnswer, textAfter, bytesIn}
+use Rattle.rooms.specs.Boarded.{answersFor, plan-bound}
 
 -- with room for the text, it is written
 pub whole-wrote : (t o : List ℕ) {a : TextAnswer} {p : List ℕ} {n : ℕ} → length t ≤ length o → n ≡ bytesIn a → (a ≡ textAnswer t o) × (p ≡ textAfter t o) → Wrote t o p n

@@ -14,8 +14,7 @@ use Rattle.model.specs.declared.Refusal.the-variants.{Shape, Number, Range, Ord
 use Rattle.model.specs.Refusals.{numberOf}
 use Rattle.writers.specs.declared.TextAnswer.{TextAnswer}
 use Rattle.writers.specs.declared.TextAnswer.the-variants.{Written, Refused}
-use Rattle.writers.specs.Into.{hasRoom, textAnswer}
-use Rattle.desk.specs.Whole.{bytesIn}
+use Rattle.writers.specs.Into.{hasRoom, textAnswer, bytesIn}
 
 -- a refusal's number, below 0
 unfoldable pub negated : Refusal → ℤ

@@ -2,8 +2,8 @@ use mathlib.Core.Path.{sym, _∙_}
 use Rattle.seats.specs.Seats.{localWaiter}
 use Rattle.walks.specs.WalkLaws.{under-all}
 use borrow.Author.Needs.{needs}
-use Rattle.supplies.proofs.next_local.Statement.{statement}
-use Rattle.supplies.proofs.next_local.Tie as tie
+use Rattle.turns.proofs.next_local.Statement.{statement}
+use Rattle.turns.proofs.next_local.Tie as tie
 
 returns : tie.Need-returns
 returns c = let a = c .before .before .before .before .before .before .args in

@@ -1,8 +1,8 @@
 use mathlib.Core.Path.{sym, _∙_}
 use borrow.Author.Tests.{eq-eqb, ne-eqb}
 use borrow.Author.Needs.{needs}
-use Rattle.supplies.proofs.task_priority.Statement.{statement}
-use Rattle.supplies.proofs.task_priority.Tie as tie
+use Rattle.turns.proofs.task_priority.Statement.{statement}
+use Rattle.turns.proofs.task_priority.Tie as tie
 
 returns : tie.Need-returns
 returns c = rw (sym (c .before .held-global .ensures) ∙ c .if1 .taken)

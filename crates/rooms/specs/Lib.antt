@@ -1,0 +1,2 @@
+pub mod Boarded
+pub mod Whole
