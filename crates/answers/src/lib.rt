@@ -87,8 +87,8 @@ fn is_section(r: PlanRecord, vt: &[u64], mt: &[u64], ts: &[u64], i: usize, j: us
     requires { ⌜ Fit r (now vt) (now mt) (now ts) × (i < r .tasks) × (j < 8) ⌝ }
     ensures { λ x. ⌜ x ≡ isSection (systemIn r (now (vt .entry)) (now (mt .entry)) (now (ts .entry))) (now (ts .entry)) i j ⌝ }
 {
-    let m = figures::lock_cell(r, vt, mt, ts, i, j, 0);
-    (j < figures::lock_count(r, vt, mt, ts, i)) & figures::is_global(r, vt, mt, ts, m)
+    let m = cells::lock_cell(r, vt, mt, ts, i, j, 0);
+    (j < cells::lock_count(r, vt, mt, ts, i)) & cells::is_global(r, vt, mt, ts, m)
 }
 
 // The answer of the wait of task i at its lock j, a global section.
@@ -105,9 +105,9 @@ fn wait_at(
     requires { ⌜ Fit r (now vt) (now mt) (now ts) × ResponsesIn r (now vt) (now mt) (now ts) (now rf) × (512 ≤ length (now rf)) × (i < r .tasks) × (j < 8) × (global (systemIn r (now vt) (now mt) (now ts) .mutexes) (lockRow (now ts) i j .m) ≡ true) × (240 ≤ length (now rows)) ⌝ }
     ensures { λ x. ⌜ x ≡ waitAnswer (systemIn r (now (vt .entry)) (now (mt .entry)) (now (ts .entry))) (taskRow (now (ts .entry)) i) (lockRow (now (ts .entry)) i j) ⌝ }
 {
-    let v = figures::task_cell(r, vt, mt, ts, i, 0);
-    let limit = figures::task_cell(r, vt, mt, ts, i, 2);
-    let m = figures::lock_cell(r, vt, mt, ts, i, j, 0);
+    let v = cells::task_cell(r, vt, mt, ts, i, 0);
+    let limit = cells::task_cell(r, vt, mt, ts, i, 2);
+    let m = cells::lock_cell(r, vt, mt, ts, i, j, 0);
     times::wait_answer(r, vt, mt, ts, rf, rows, v, m, limit)
 }
 
@@ -116,10 +116,10 @@ fn same_before(r: PlanRecord, vt: &[u64], mt: &[u64], ts: &[u64], i: usize, j: u
     requires { ⌜ Fit r (now vt) (now mt) (now ts) × (i < r .tasks) × (j < 8) ⌝ }
     ensures { λ x. ⌜ (x ≤ j) × (lockRow (now (ts .entry)) i x .m ≡ lockRow (now (ts .entry)) i j .m) ⌝ }
 {
-    let m = figures::lock_cell(r, vt, mt, ts, i, j, 0);
+    let m = cells::lock_cell(r, vt, mt, ts, i, j, 0);
     let mut e = 0;
     while e < j {
-        let x = figures::lock_cell(r, vt, mt, ts, i, e, 0);
+        let x = cells::lock_cell(r, vt, mt, ts, i, e, 0);
         if x == m {
             return e;
         }
@@ -210,7 +210,7 @@ fn wait_sum(r: PlanRecord, vt: &[u64], mt: &[u64], ts: &[u64], wa: &[u64], i: us
     requires { ⌜ Fit r (now vt) (now mt) (now ts) × Places (systemIn r (now vt) (now mt) (now ts)) (now ts) (r .tasks * 8) (now wa) × (i < r .tasks) ⌝ }
     ensures { λ x. ⌜ Is x (remoteWaits (systemIn r (now (vt .entry)) (now (mt .entry)) (now (ts .entry))) (taskRow (now (ts .entry)) i)) 8000000 ⌝ }
 {
-    let n = figures::lock_count(r, vt, mt, ts, i);
+    let n = cells::lock_count(r, vt, mt, ts, i);
     let mut s: u64 = 0;
     let mut j = 0;
     while j < n {
@@ -234,8 +234,8 @@ fn wait_late(
     requires { ⌜ Fit r (now vt) (now mt) (now ts) × Places (systemIn r (now vt) (now mt) (now ts)) (now ts) (r .tasks * 8) (now wa) × (i < r .tasks) × (j < 8) × (j < cell (now ts) 29 i 4) ⌝ }
     ensures { λ x. ⌜ x ≡ (global (systemIn r (now (vt .entry)) (now (mt .entry)) (now (ts .entry)) .mutexes) (lockRow (now (ts .entry)) i j .m) && isLate (waitAnswer (systemIn r (now (vt .entry)) (now (mt .entry)) (now (ts .entry))) (taskRow (now (ts .entry)) i) (lockRow (now (ts .entry)) i j))) ⌝ }
 {
-    let m = figures::lock_cell(r, vt, mt, ts, i, j, 0);
-    figures::is_global(r, vt, mt, ts, m) & (wa[(i * 8 + j) * 3] == 0)
+    let m = cells::lock_cell(r, vt, mt, ts, i, j, 0);
+    cells::is_global(r, vt, mt, ts, m) & (wa[(i * 8 + j) * 3] == 0)
 }
 
 // Does task i lack a wait?
@@ -243,7 +243,7 @@ fn is_lacking(r: PlanRecord, vt: &[u64], mt: &[u64], ts: &[u64], wa: &[u64], i: 
     requires { ⌜ Fit r (now vt) (now mt) (now ts) × Places (systemIn r (now vt) (now mt) (now ts)) (now ts) (r .tasks * 8) (now wa) × (i < r .tasks) ⌝ }
     ensures { λ x. ⌜ x ≡ lacksWait (systemIn r (now (vt .entry)) (now (mt .entry)) (now (ts .entry))) (taskRow (now (ts .entry)) i) ⌝ }
 {
-    let n = figures::lock_count(r, vt, mt, ts, i);
+    let n = cells::lock_count(r, vt, mt, ts, i);
     let mut j = 0;
     while j < n {
         if wait_late(r, vt, mt, ts, wa, i, j) {

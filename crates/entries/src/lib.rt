@@ -40,7 +40,7 @@ fn vcpu_row(r: PlanRecord, vt: &[u64], mt: &[u64], ts: &[u64], v: u64) -> usize
     let n = r.vcpus;
     let mut a = 0;
     while a < n {
-        let x = figures::vcpu_cell(r, vt, mt, ts, a, 0);
+        let x = cells::vcpu_cell(r, vt, mt, ts, a, 0);
         if x == v {
             return a;
         }
@@ -57,7 +57,7 @@ fn task_row(r: PlanRecord, vt: &[u64], mt: &[u64], ts: &[u64], v: u64, n: u64) -
     let e = r.tasks;
     let mut a = 0;
     while a < e {
-        if figures::row_task(r, vt, mt, ts, a, v, n) {
+        if cells::row_task(r, vt, mt, ts, a, v, n) {
             return a;
         }
         a += 1;
@@ -70,15 +70,15 @@ fn has_section(r: PlanRecord, vt: &[u64], mt: &[u64], ts: &[u64], k: usize, i: u
     requires { ⌜ Fit r (now vt) (now mt) (now ts) × (k < r .tasks) ⌝ }
     ensures { λ x. ⌜ x ≡ hasSection (systemIn r (now (vt .entry)) (now (mt .entry)) (now (ts .entry))) (taskRow (now (ts .entry)) k) i ⌝ }
 {
-    let n = figures::lock_count(r, vt, mt, ts, k) as u64;
+    let n = cells::lock_count(r, vt, mt, ts, k) as u64;
     if i < 1 {
         return false;
     }
     if n < i {
         return false;
     }
-    let m = figures::lock_cell(r, vt, mt, ts, k, (i - 1) as usize, 0);
-    figures::is_global(r, vt, mt, ts, m)
+    let m = cells::lock_cell(r, vt, mt, ts, k, (i - 1) as usize, 0);
+    cells::is_global(r, vt, mt, ts, m)
 }
 
 // The answer of VCPU row a.
@@ -104,9 +104,9 @@ fn wait_answer(r: PlanRecord, vt: &[u64], mt: &[u64], ts: &[u64], k: usize, i: u
     let mut rf = [0u64; 512];
     let mut rows = [0u64; 240];
     stored::stored(r, vt, mt, ts, &mut tf, &mut vf, &mut rf);
-    let v = figures::task_cell(r, vt, mt, ts, k, 0);
-    let limit = figures::task_cell(r, vt, mt, ts, k, 2);
-    let m = figures::lock_cell(r, vt, mt, ts, k, (i - 1) as usize, 0);
+    let v = cells::task_cell(r, vt, mt, ts, k, 0);
+    let limit = cells::task_cell(r, vt, mt, ts, k, 2);
+    let m = cells::lock_cell(r, vt, mt, ts, k, (i - 1) as usize, 0);
     times::wait_answer(r, vt, mt, ts, &rf, &mut rows, v, m, limit)
 }
 

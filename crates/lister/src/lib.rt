@@ -32,7 +32,7 @@ fn put_vcpu(
     requires { ⌜ Fit r (now vt) (now mt) (now ts) × VcpuAnswersIn r (now vt) (now mt) (now ts) (now va) × (a < r .vcpus) × (length (vcpuLine (systemIn r (now vt) (now mt) (now ts)) (vcpuRow (now vt) a)) ≤ length (now out)) ⌝ }
     ensures { λ k. ⌜ Wrote (vcpuLine (systemIn r (now (vt .entry)) (now (mt .entry)) (now (ts .entry))) (vcpuRow (now (vt .entry)) a)) (now (out .entry)) (now (out .exit)) k ⌝ }
 {
-    let v = figures::vcpu_cell(r, vt, mt, ts, a, 0);
+    let v = cells::vcpu_cell(r, vt, mt, ts, a, 0);
     let x = told::answer_at(va, a);
     writers::vcpu_line(out, v, x)
 }
@@ -67,12 +67,12 @@ fn put_wait(
     requires { ⌜ Fit r (now vt) (now mt) (now ts) × WaitAnswersIn r (now vt) (now mt) (now ts) (now wa) × (i < r .tasks) × (j < 8) × (j < cell (now ts) 29 i 4) × (length (placeText (systemIn r (now vt) (now mt) (now ts)) (taskRow (now ts) i) (lockRow (now ts) i) j) ≤ length (now out)) ⌝ }
     ensures { λ k. ⌜ Wrote (placeText (systemIn r (now (vt .entry)) (now (mt .entry)) (now (ts .entry))) (taskRow (now (ts .entry)) i) (lockRow (now (ts .entry)) i) j) (now (out .entry)) (now (out .exit)) k ⌝ }
 {
-    let m = figures::lock_cell(r, vt, mt, ts, i, j, 0);
-    if !figures::is_global(r, vt, mt, ts, m) {
+    let m = cells::lock_cell(r, vt, mt, ts, i, j, 0);
+    if !cells::is_global(r, vt, mt, ts, m) {
         return 0;
     }
-    let v = figures::task_cell(r, vt, mt, ts, i, 0);
-    let n = figures::task_cell(r, vt, mt, ts, i, 1);
+    let v = cells::task_cell(r, vt, mt, ts, i, 0);
+    let n = cells::task_cell(r, vt, mt, ts, i, 1);
     let x = told::answer_at(wa, i * 8 + j);
     writers::wait_line(out, v, n, (j + 1) as u64, x)
 }
@@ -90,7 +90,7 @@ fn put_waits(
     requires { ⌜ Fit r (now vt) (now mt) (now ts) × WaitAnswersIn r (now vt) (now mt) (now ts) (now wa) × (i < r .tasks) × (length (waitLines (systemIn r (now vt) (now mt) (now ts)) (taskRow (now ts) i) 1 (taskRow (now ts) i .locks)) ≤ length (now out)) ⌝ }
     ensures { λ k. ⌜ Wrote (waitLines (systemIn r (now (vt .entry)) (now (mt .entry)) (now (ts .entry))) (taskRow (now (ts .entry)) i) 1 (taskRow (now (ts .entry)) i .locks)) (now (out .entry)) (now (out .exit)) k ⌝ }
 {
-    let n = figures::lock_count(r, vt, mt, ts, i);
+    let n = cells::lock_count(r, vt, mt, ts, i);
     let mut at = 0;
     let mut j = 0;
     while j < n {
@@ -115,8 +115,8 @@ fn put_task(
     requires { ⌜ Fit r (now vt) (now mt) (now ts) × WaitAnswersIn r (now vt) (now mt) (now ts) (now wa) × TaskAnswersIn r (now vt) (now mt) (now ts) (now ta) × (i < r .tasks) × (length (taskLines (systemIn r (now vt) (now mt) (now ts)) (taskRow (now ts) i)) ≤ length (now out)) ⌝ }
     ensures { λ k. ⌜ Wrote (taskLines (systemIn r (now (vt .entry)) (now (mt .entry)) (now (ts .entry))) (taskRow (now (ts .entry)) i)) (now (out .entry)) (now (out .exit)) k ⌝ }
 {
-    let v = figures::task_cell(r, vt, mt, ts, i, 0);
-    let n = figures::task_cell(r, vt, mt, ts, i, 1);
+    let v = cells::task_cell(r, vt, mt, ts, i, 0);
+    let n = cells::task_cell(r, vt, mt, ts, i, 1);
     let a = told::task_answer_at(ta, i);
     let k = put_waits(r, vt, mt, ts, wa, i, out);
     k + writers::task_line(&mut out[k..], v, n, a)

@@ -24,7 +24,7 @@ fn push_one(
     requires { ⌜ Fit r (now vt) (now mt) (now ts) × (i < r .tasks) × Placed (r .tasks) (now order) k × (k + length (only (isTask v n) (taskRow (now ts) i ∷ [])) ≤ 64) ⌝ }
     ensures { λ e. ⌜ Added (now (ts .entry)) (r .tasks) (tasksAt (now (ts .entry)) (now (order .entry)) k) (only (isTask v n) (taskRow (now (ts .entry)) i ∷ [])) (now (order .exit)) e ⌝ }
 {
-    if !figures::row_task(r, vt, mt, ts, i, v, n) {
+    if !cells::row_task(r, vt, mt, ts, i, v, n) {
         return k;
     }
     order[k] = i as u64;

@@ -15,7 +15,7 @@ fn size_vcpu(r: PlanRecord, vt: &[u64], mt: &[u64], ts: &[u64], va: &[u64], a: u
     requires { ⌜ Fit r (now vt) (now mt) (now ts) × VcpuAnswersIn r (now vt) (now mt) (now ts) (now va) × (a < r .vcpus) ⌝ }
     ensures { λ x. ⌜ Sized (vcpuLine (systemIn r (now (vt .entry)) (now (mt .entry)) (now (ts .entry))) (vcpuRow (now (vt .entry)) a)) 75 x ⌝ }
 {
-    let v = figures::vcpu_cell(r, vt, mt, ts, a, 0);
+    let v = cells::vcpu_cell(r, vt, mt, ts, a, 0);
     let x = told::answer_at(va, a);
     writers::vcpu_size(v, x)
 }
@@ -47,12 +47,12 @@ fn size_wait(
     requires { ⌜ Fit r (now vt) (now mt) (now ts) × WaitAnswersIn r (now vt) (now mt) (now ts) (now wa) × (i < r .tasks) × (j < 8) × (j < cell (now ts) 29 i 4) ⌝ }
     ensures { λ x. ⌜ Sized (placeText (systemIn r (now (vt .entry)) (now (mt .entry)) (now (ts .entry))) (taskRow (now (ts .entry)) i) (lockRow (now (ts .entry)) i) j) 110 x ⌝ }
 {
-    let m = figures::lock_cell(r, vt, mt, ts, i, j, 0);
-    if !figures::is_global(r, vt, mt, ts, m) {
+    let m = cells::lock_cell(r, vt, mt, ts, i, j, 0);
+    if !cells::is_global(r, vt, mt, ts, m) {
         return 0;
     }
-    let v = figures::task_cell(r, vt, mt, ts, i, 0);
-    let n = figures::task_cell(r, vt, mt, ts, i, 1);
+    let v = cells::task_cell(r, vt, mt, ts, i, 0);
+    let n = cells::task_cell(r, vt, mt, ts, i, 1);
     let x = told::answer_at(wa, i * 8 + j);
     writers::wait_size(v, n, (j + 1) as u64, x)
 }
@@ -61,7 +61,7 @@ fn size_waits(r: PlanRecord, vt: &[u64], mt: &[u64], ts: &[u64], wa: &[u64], i: 
     requires { ⌜ Fit r (now vt) (now mt) (now ts) × WaitAnswersIn r (now vt) (now mt) (now ts) (now wa) × (i < r .tasks) ⌝ }
     ensures { λ x. ⌜ Sized (waitLines (systemIn r (now (vt .entry)) (now (mt .entry)) (now (ts .entry))) (taskRow (now (ts .entry)) i) 1 (taskRow (now (ts .entry)) i .locks)) 880 x ⌝ }
 {
-    let n = figures::lock_count(r, vt, mt, ts, i);
+    let n = cells::lock_count(r, vt, mt, ts, i);
     let mut s = 0;
     let mut j = 0;
     while j < n {
@@ -84,8 +84,8 @@ fn size_task(
     requires { ⌜ Fit r (now vt) (now mt) (now ts) × WaitAnswersIn r (now vt) (now mt) (now ts) (now wa) × TaskAnswersIn r (now vt) (now mt) (now ts) (now ta) × (i < r .tasks) ⌝ }
     ensures { λ x. ⌜ Sized (taskLines (systemIn r (now (vt .entry)) (now (mt .entry)) (now (ts .entry))) (taskRow (now (ts .entry)) i)) 976 x ⌝ }
 {
-    let v = figures::task_cell(r, vt, mt, ts, i, 0);
-    let n = figures::task_cell(r, vt, mt, ts, i, 1);
+    let v = cells::task_cell(r, vt, mt, ts, i, 0);
+    let n = cells::task_cell(r, vt, mt, ts, i, 1);
     let a = told::task_answer_at(ta, i);
     let x = size_waits(r, vt, mt, ts, wa, i);
     x + writers::task_size(v, n, a)

@@ -36,10 +36,10 @@ fn fill_tasks(r: PlanRecord, vt: &[u64], mt: &[u64], ts: &[u64], tf: &mut [u64])
     let n = r.tasks;
     let mut i = 0;
     while i < n {
-        let x = figures::longest_global(r, vt, mt, ts, i);
-        let y = figures::global_sum(r, vt, mt, ts, i);
-        let z = figures::global_count(r, vt, mt, ts, i);
-        let w = figures::lengths_of(r, vt, mt, ts, i);
+        let x = cells::longest_global(r, vt, mt, ts, i);
+        let y = cells::global_sum(r, vt, mt, ts, i);
+        let z = cells::global_count(r, vt, mt, ts, i);
+        let w = cells::lengths_of(r, vt, mt, ts, i);
         put_task(tf, i, x, y, z, w);
         i += 1;
     }
@@ -66,7 +66,7 @@ fn blocks_global(
     requires { ⌜ Fit r (now vt) (now mt) (now ts) × TasksIn r (now vt) (now mt) (now ts) (now tf) × (i < r .tasks) × (h < r .tasks) ⌝ }
     ensures { λ x. ⌜ Is x (when (lowerTask (taskRow (now (ts .entry)) i) (taskRow (now (ts .entry)) h)) (longestGlobal (systemIn r (now (vt .entry)) (now (mt .entry)) (now (ts .entry))) (taskRow (now (ts .entry)) h))) 1000000 ⌝ }
 {
-    if figures::is_lower(r, vt, mt, ts, i, h) {
+    if cells::is_lower(r, vt, mt, ts, i, h) {
         longest_at(r, vt, mt, ts, tf, h)
     } else {
         0
@@ -94,7 +94,7 @@ fn local_blocking(r: PlanRecord, vt: &[u64], mt: &[u64], ts: &[u64], tf: &[u64],
     requires { ⌜ Fit r (now vt) (now mt) (now ts) × TasksIn r (now vt) (now mt) (now ts) (now tf) × (i < r .tasks) ⌝ }
     ensures { λ x. ⌜ Is x (localBlocking (systemIn r (now (vt .entry)) (now (mt .entry)) (now (ts .entry))) (taskRow (now (ts .entry)) i)) 585000000 ⌝ }
 {
-    let longest = figures::greatest_local(r, vt, mt, ts, i);
+    let longest = cells::greatest_local(r, vt, mt, ts, i);
     let sum = lower_sum(r, vt, mt, ts, tf, i);
     (longest + sum) * (tf[i * 5 + 2] + 1)
 }
@@ -127,7 +127,7 @@ fn ght_at(r: PlanRecord, vt: &[u64], mt: &[u64], ts: &[u64], tf: &[u64], v: u64,
     requires { ⌜ Fit r (now vt) (now mt) (now ts) × TasksIn r (now vt) (now mt) (now ts) (now tf) × (h < r .tasks) ⌝ }
     ensures { λ x. ⌜ Is x (when (eqb (taskRow (now (ts .entry)) h .v) v) (longestGlobal (systemIn r (now (vt .entry)) (now (mt .entry)) (now (ts .entry))) (taskRow (now (ts .entry)) h))) 1000000 ⌝ }
 {
-    if figures::task_cell(r, vt, mt, ts, h, 0) == v {
+    if cells::task_cell(r, vt, mt, ts, h, 0) == v {
         longest_at(r, vt, mt, ts, tf, h)
     } else {
         0
@@ -169,8 +169,8 @@ fn fill_vcpus(r: PlanRecord, vt: &[u64], mt: &[u64], ts: &[u64], tf: &[u64], vf:
     let o = r.overrun;
     let mut a = 0;
     while a < n {
-        let g = ght_of(r, vt, mt, ts, tf, figures::vcpu_cell(r, vt, mt, ts, a, 0));
-        let x = figures::vcpu_cell(r, vt, mt, ts, a, 3) + overrun_by(o, g);
+        let g = ght_of(r, vt, mt, ts, tf, cells::vcpu_cell(r, vt, mt, ts, a, 0));
+        let x = cells::vcpu_cell(r, vt, mt, ts, a, 3) + overrun_by(o, g);
         put_vcpu(vf, a, g, x);
         a += 1;
     }
@@ -181,8 +181,8 @@ fn is_higher_on(r: PlanRecord, vt: &[u64], mt: &[u64], ts: &[u64], a: usize, b: 
     requires { ⌜ Fit r (now vt) (now mt) (now ts) × (a < r .vcpus) × (b < r .vcpus) ⌝ }
     ensures { λ x. ⌜ x ≡ higherOn (vcpuRow (now (vt .entry)) a) (vcpuRow (now (vt .entry)) b) ⌝ }
 {
-    let higher = figures::vcpu_cell(r, vt, mt, ts, a, 0) < figures::vcpu_cell(r, vt, mt, ts, b, 0);
-    higher & (figures::vcpu_cell(r, vt, mt, ts, b, 2) == figures::vcpu_cell(r, vt, mt, ts, a, 2))
+    let higher = cells::vcpu_cell(r, vt, mt, ts, a, 0) < cells::vcpu_cell(r, vt, mt, ts, b, 0);
+    higher & (cells::vcpu_cell(r, vt, mt, ts, b, 2) == cells::vcpu_cell(r, vt, mt, ts, a, 2))
 }
 
 // What VCPU b adds to the preemption of VCPU a.
@@ -243,7 +243,7 @@ pub fn vcpu_of(r: PlanRecord, vt: &[u64], mt: &[u64], ts: &[u64], v: u64) -> usi
     let n = r.vcpus;
     let mut a = 0;
     while a < n {
-        let x = figures::vcpu_cell(r, vt, mt, ts, a, 0);
+        let x = cells::vcpu_cell(r, vt, mt, ts, a, 0);
         if x == v {
             return a;
         }
@@ -257,8 +257,8 @@ pub fn is_higher(r: PlanRecord, vt: &[u64], mt: &[u64], ts: &[u64], i: usize, h:
     requires { ⌜ Fit r (now vt) (now mt) (now ts) × (i < r .tasks) × (h < r .tasks) ⌝ }
     ensures { λ x. ⌜ x ≡ higherTask (taskRow (now (ts .entry)) i) (taskRow (now (ts .entry)) h) ⌝ }
 {
-    let same = figures::task_cell(r, vt, mt, ts, h, 0) == figures::task_cell(r, vt, mt, ts, i, 0);
-    same & (figures::task_cell(r, vt, mt, ts, i, 1) < figures::task_cell(r, vt, mt, ts, h, 1))
+    let same = cells::task_cell(r, vt, mt, ts, h, 0) == cells::task_cell(r, vt, mt, ts, i, 0);
+    same & (cells::task_cell(r, vt, mt, ts, i, 1) < cells::task_cell(r, vt, mt, ts, h, 1))
 }
 
 // What task h adds to the load of a section of task i.
@@ -331,8 +331,8 @@ fn response_on(
     requires { ⌜ Fit r (now vt) (now mt) (now ts) × VcpusIn r (now vt) (now mt) (now ts) (now vf) × PreemptionsIn r (now vt) (now mt) (now ts) (now vf) × (a < r .vcpus) × (load ≤ 65000000) ⌝ }
     ensures { λ x. ⌜ Is x (responseBy (r .policy) (r .overrun) (vcpuRow (now (vt .entry)) a) load (preemption (systemIn r (now (vt .entry)) (now (mt .entry)) (now (ts .entry))) (vcpuRow (now (vt .entry)) a))) maxResponse ⌝ }
 {
-    let budget = figures::vcpu_cell(r, vt, mt, ts, a, 3);
-    let period = figures::vcpu_cell(r, vt, mt, ts, a, 4);
+    let budget = cells::vcpu_cell(r, vt, mt, ts, a, 3);
+    let period = cells::vcpu_cell(r, vt, mt, ts, a, 4);
     let p = r.policy;
     let o = r.overrun;
     response_by(p, o, period - budget, budget, load, vf[a * 3 + 2])
@@ -352,8 +352,8 @@ fn response_of(
     requires { ⌜ Fit r (now vt) (now mt) (now ts) × TasksIn r (now vt) (now mt) (now ts) (now tf) × VcpusIn r (now vt) (now mt) (now ts) (now vf) × PreemptionsIn r (now vt) (now mt) (now ts) (now vf) × (i < r .tasks) × (j < 8) ⌝ }
     ensures { λ x. ⌜ Is x (response (systemIn r (now (vt .entry)) (now (mt .entry)) (now (ts .entry))) (taskRow (now (ts .entry)) i) (lockRow (now (ts .entry)) i j)) maxResponse ⌝ }
 {
-    let a = vcpu_of(r, vt, mt, ts, figures::task_cell(r, vt, mt, ts, i, 0));
-    let load = figures::lock_cell(r, vt, mt, ts, i, j, 1) + higher_sum(r, vt, mt, ts, tf, i);
+    let a = vcpu_of(r, vt, mt, ts, cells::task_cell(r, vt, mt, ts, i, 0));
+    let load = cells::lock_cell(r, vt, mt, ts, i, j, 1) + higher_sum(r, vt, mt, ts, tf, i);
     response_on(r, vt, mt, ts, vf, a, load)
 }
 
@@ -371,8 +371,8 @@ fn section_response(
     requires { ⌜ Fit r (now vt) (now mt) (now ts) × TasksIn r (now vt) (now mt) (now ts) (now tf) × VcpusIn r (now vt) (now mt) (now ts) (now vf) × PreemptionsIn r (now vt) (now mt) (now ts) (now vf) × (i < r .tasks) × (j < 8) ⌝ }
     ensures { λ x. ⌜ Is x (sectionResponse (systemIn r (now (vt .entry)) (now (mt .entry)) (now (ts .entry))) (now (ts .entry)) i j) maxResponse ⌝ }
 {
-    let m = figures::lock_cell(r, vt, mt, ts, i, j, 0);
-    if (j < figures::lock_count(r, vt, mt, ts, i)) & figures::is_global(r, vt, mt, ts, m) {
+    let m = cells::lock_cell(r, vt, mt, ts, i, j, 0);
+    if (j < cells::lock_count(r, vt, mt, ts, i)) & cells::is_global(r, vt, mt, ts, m) {
         response_of(r, vt, mt, ts, tf, vf, i, j)
     } else {
         0

@@ -92,7 +92,7 @@ fn push_task(
     requires { ⌜ Fit r (now vt) (now mt) (now ts) × TasksIn r (now vt) (now mt) (now ts) (now tf) × WaitsIn r (now vt) (now mt) (now ts) (now ws) (now fs) × (gap ≤ 1000000) × (h < r .tasks) × (n * 3 + 3 ≤ length (now rows)) ⌝ }
     ensures { λ out. ⌜ now (rows .exit) ≡ pushed (now (rows .entry)) n (preemptRow (systemIn r (now (vt .entry)) (now (mt .entry)) (now (ts .entry))) gap (taskRow (now (ts .entry)) h)) ⌝ }
 {
-    let period = figures::task_cell(r, vt, mt, ts, h, 2);
+    let period = cells::task_cell(r, vt, mt, ts, h, 2);
     search::push_row(rows, n, gap + ws[h], period, tf[h * 5 + 3]);
 }
 
@@ -142,9 +142,9 @@ fn task_rows(
     requires { ⌜ Fit r (now vt) (now mt) (now ts) × TasksIn r (now vt) (now mt) (now ts) (now tf) × WaitsIn r (now vt) (now mt) (now ts) (now ws) (now fs) × (i < r .tasks) × (240 ≤ length (now rows)) ⌝ }
     ensures { λ n. ⌜ (n ≤ 65) × (rowsIn (now (rows .exit)) n ≡ taskRows (systemIn r (now (vt .entry)) (now (mt .entry)) (now (ts .entry))) (taskRow (now (ts .entry)) i) (vcpuAt (systemIn r (now (vt .entry)) (now (mt .entry)) (now (ts .entry))) (taskRow (now (ts .entry)) i .v))) × Each Sound (rowsIn (now (rows .exit)) n) ⌝ }
 {
-    let a = stored::vcpu_of(r, vt, mt, ts, figures::task_cell(r, vt, mt, ts, i, 0));
-    let budget = figures::vcpu_cell(r, vt, mt, ts, a, 3);
-    let period = figures::vcpu_cell(r, vt, mt, ts, a, 4);
+    let a = stored::vcpu_of(r, vt, mt, ts, cells::task_cell(r, vt, mt, ts, i, 0));
+    let budget = cells::vcpu_cell(r, vt, mt, ts, a, 3);
+    let period = cells::vcpu_cell(r, vt, mt, ts, a, 4);
     let gap = period - budget;
     let n = higher_rows(r, vt, mt, ts, tf, ws, fs, rows, gap, i);
     search::push_row(rows, n, budget, period, gap);
@@ -185,7 +185,7 @@ fn task_search(
 {
     let base = task_base(r, vt, mt, ts, tf, ws, fs, i);
     let n = task_rows(r, vt, mt, ts, tf, ws, fs, rows, i);
-    let limit = figures::task_cell(r, vt, mt, ts, i, 2);
+    let limit = cells::task_cell(r, vt, mt, ts, i, 2);
     search::least(base, tf[i * 5 + 3], limit, rows, n)
 }
 

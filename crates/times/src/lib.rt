@@ -36,8 +36,8 @@ fn is_lower_on(r: PlanRecord, vt: &[u64], mt: &[u64], ts: &[u64], a: usize, b: u
     requires { ⌜ Fit r (now vt) (now mt) (now ts) × (a < r .vcpus) × (b < r .vcpus) ⌝ }
     ensures { λ x. ⌜ x ≡ lowerOn (vcpuRow (now (vt .entry)) a) (vcpuRow (now (vt .entry)) b) ⌝ }
 {
-    let lower = figures::vcpu_cell(r, vt, mt, ts, b, 0) < figures::vcpu_cell(r, vt, mt, ts, a, 0);
-    lower & (figures::vcpu_cell(r, vt, mt, ts, b, 2) == figures::vcpu_cell(r, vt, mt, ts, a, 2))
+    let lower = cells::vcpu_cell(r, vt, mt, ts, b, 0) < cells::vcpu_cell(r, vt, mt, ts, a, 0);
+    lower & (cells::vcpu_cell(r, vt, mt, ts, b, 2) == cells::vcpu_cell(r, vt, mt, ts, a, 2))
 }
 
 // Is VCPU b a higher VCPU on the core of VCPU a?
@@ -45,8 +45,8 @@ fn is_higher_on(r: PlanRecord, vt: &[u64], mt: &[u64], ts: &[u64], a: usize, b: 
     requires { ⌜ Fit r (now vt) (now mt) (now ts) × (a < r .vcpus) × (b < r .vcpus) ⌝ }
     ensures { λ x. ⌜ x ≡ higherOn (vcpuRow (now (vt .entry)) a) (vcpuRow (now (vt .entry)) b) ⌝ }
 {
-    let higher = figures::vcpu_cell(r, vt, mt, ts, a, 0) < figures::vcpu_cell(r, vt, mt, ts, b, 0);
-    higher & (figures::vcpu_cell(r, vt, mt, ts, b, 2) == figures::vcpu_cell(r, vt, mt, ts, a, 2))
+    let higher = cells::vcpu_cell(r, vt, mt, ts, a, 0) < cells::vcpu_cell(r, vt, mt, ts, b, 0);
+    higher & (cells::vcpu_cell(r, vt, mt, ts, b, 2) == cells::vcpu_cell(r, vt, mt, ts, a, 2))
 }
 
 // 1 where VCPU b is a lower VCPU on the core of VCPU a, and is v.
@@ -55,7 +55,7 @@ fn lower_one(r: PlanRecord, vt: &[u64], mt: &[u64], ts: &[u64], a: usize, v: u64
     ensures { λ x. ⌜ Is x (when (lowerOn (vcpuRow (now (vt .entry)) a) (vcpuRow (now (vt .entry)) b) && eqb v (vcpuRow (now (vt .entry)) b .v)) 1) 1 ⌝ }
 {
     let lower = is_lower_on(r, vt, mt, ts, a, b);
-    if lower & (v == figures::vcpu_cell(r, vt, mt, ts, b, 0)) {
+    if lower & (v == cells::vcpu_cell(r, vt, mt, ts, b, 0)) {
         1
     } else {
         0
@@ -93,7 +93,7 @@ fn blocking_cost(
     ensures { λ x. ⌜ Is x (blockingCost d (systemIn r (now (vt .entry)) (now (mt .entry)) (now (ts .entry))) (vcpuRow (now (vt .entry)) a) (taskRow (now (ts .entry)) k)) 128000000 ⌝ }
 {
     if d {
-        lower_times(r, vt, mt, ts, a, figures::task_cell(r, vt, mt, ts, k, 0)) * tf[k * 5 + 1]
+        lower_times(r, vt, mt, ts, a, cells::task_cell(r, vt, mt, ts, k, 0)) * tf[k * 5 + 1]
     } else {
         0
     }
@@ -207,7 +207,7 @@ fn task_rows(
             k += 1;
             continue;
         }
-        search::push_row(rows, n, 0, figures::task_cell(r, vt, mt, ts, k, 2), cost);
+        search::push_row(rows, n, 0, cells::task_cell(r, vt, mt, ts, k, 2), cost);
         n += 1;
         k += 1;
     }
@@ -237,8 +237,8 @@ fn push_vcpu(
     requires { ⌜ Fit r (now vt) (now mt) (now ts) × VcpusIn r (now vt) (now mt) (now ts) (now vf) × (d ≡ isDeferrable (r .policy)) × (b < r .vcpus) × (n * 3 + 3 ≤ length (now rows)) ⌝ }
     ensures { λ out. ⌜ now (rows .exit) ≡ pushed (now (rows .entry)) n (higherRow (systemIn r (now (vt .entry)) (now (mt .entry)) (now (ts .entry))) (vcpuRow (now (vt .entry)) b)) ⌝ }
 {
-    let budget = figures::vcpu_cell(r, vt, mt, ts, b, 3);
-    let period = figures::vcpu_cell(r, vt, mt, ts, b, 4);
+    let budget = cells::vcpu_cell(r, vt, mt, ts, b, 3);
+    let period = cells::vcpu_cell(r, vt, mt, ts, b, 4);
     search::push_row(rows, n, jitter_of(d, budget, period), period, vf[b * 3 + 1]);
 }
 
@@ -294,7 +294,7 @@ pub fn vcpu_answer(
     search::least(
         base,
         vf[a * 3 + 1],
-        figures::vcpu_cell(r, vt, mt, ts, a, 4),
+        cells::vcpu_cell(r, vt, mt, ts, a, 4),
         rows,
         e,
     )
@@ -314,7 +314,7 @@ fn section_on(
     requires { ⌜ Fit r (now vt) (now mt) (now ts) × ResponsesIn r (now vt) (now mt) (now ts) (now rf) × (512 ≤ length (now rf)) × (i < r .tasks) × (j < 8) × (j < cell (now ts) 29 i 4) × (global (systemIn r (now vt) (now mt) (now ts) .mutexes) m ≡ true) ⌝ }
     ensures { λ x. ⌜ Is x (responseOn (systemIn r (now (vt .entry)) (now (mt .entry)) (now (ts .entry))) m (taskRow (now (ts .entry)) i) (lockRow (now (ts .entry)) i j)) maxResponse ⌝ }
 {
-    if figures::lock_cell(r, vt, mt, ts, i, j, 0) == m {
+    if cells::lock_cell(r, vt, mt, ts, i, j, 0) == m {
         rf[i * 8 + j]
     } else {
         0
@@ -326,12 +326,12 @@ fn most_on(r: PlanRecord, vt: &[u64], mt: &[u64], ts: &[u64], rf: &[u64], i: usi
     requires { ⌜ Fit r (now vt) (now mt) (now ts) × ResponsesIn r (now vt) (now mt) (now ts) (now rf) × (512 ≤ length (now rf)) × (i < r .tasks) × (global (systemIn r (now vt) (now mt) (now ts) .mutexes) m ≡ true) ⌝ }
     ensures { λ x. ⌜ Is x (greatest (responseOn (systemIn r (now (vt .entry)) (now (mt .entry)) (now (ts .entry))) m (taskRow (now (ts .entry)) i)) (taskRow (now (ts .entry)) i .locks)) maxResponse ⌝ }
 {
-    let n = figures::lock_count(r, vt, mt, ts, i);
+    let n = cells::lock_count(r, vt, mt, ts, i);
     let mut s: u64 = 0;
     let mut j = 0;
     while j < n {
         let x = section_on(r, vt, mt, ts, rf, i, j, m);
-        s = figures::larger(s, x);
+        s = cells::larger(s, x);
         j += 1;
     }
     s
@@ -342,7 +342,7 @@ fn sum_on(r: PlanRecord, vt: &[u64], mt: &[u64], ts: &[u64], rf: &[u64], i: usiz
     requires { ⌜ Fit r (now vt) (now mt) (now ts) × ResponsesIn r (now vt) (now mt) (now ts) (now rf) × (512 ≤ length (now rf)) × (i < r .tasks) × (global (systemIn r (now vt) (now mt) (now ts) .mutexes) m ≡ true) ⌝ }
     ensures { λ x. ⌜ Is x (sum (responseOn (systemIn r (now (vt .entry)) (now (mt .entry)) (now (ts .entry))) m (taskRow (now (ts .entry)) i)) (taskRow (now (ts .entry)) i .locks)) 520008712000000 ⌝ }
 {
-    let n = figures::lock_count(r, vt, mt, ts, i);
+    let n = cells::lock_count(r, vt, mt, ts, i);
     let mut s: u64 = 0;
     let mut j = 0;
     while j < n {
@@ -367,7 +367,7 @@ fn most_lower(
     requires { ⌜ Fit r (now vt) (now mt) (now ts) × ResponsesIn r (now vt) (now mt) (now ts) (now rf) × (512 ≤ length (now rf)) × (i < r .tasks) × (global (systemIn r (now vt) (now mt) (now ts) .mutexes) m ≡ true) ⌝ }
     ensures { λ x. ⌜ Is x (when (ltb (taskRow (now (ts .entry)) i .v) v) (greatest (responseOn (systemIn r (now (vt .entry)) (now (mt .entry)) (now (ts .entry))) m (taskRow (now (ts .entry)) i)) (taskRow (now (ts .entry)) i .locks))) maxResponse ⌝ }
 {
-    if figures::task_cell(r, vt, mt, ts, i, 0) < v {
+    if cells::task_cell(r, vt, mt, ts, i, 0) < v {
         most_on(r, vt, mt, ts, rf, i, m)
     } else {
         0
@@ -384,7 +384,7 @@ fn wait_start(r: PlanRecord, vt: &[u64], mt: &[u64], ts: &[u64], rf: &[u64], v: 
     let mut i = 0;
     while i < n {
         let x = most_lower(r, vt, mt, ts, rf, v, m, i);
-        s = figures::larger(s, x);
+        s = cells::larger(s, x);
         i += 1;
     }
     s
@@ -404,7 +404,7 @@ fn wait_cost(
     requires { ⌜ Fit r (now vt) (now mt) (now ts) × ResponsesIn r (now vt) (now mt) (now ts) (now rf) × (512 ≤ length (now rf)) × (i < r .tasks) × (global (systemIn r (now vt) (now mt) (now ts) .mutexes) m ≡ true) ⌝ }
     ensures { λ x. ⌜ Is x (waitCost (systemIn r (now (vt .entry)) (now (mt .entry)) (now (ts .entry))) v m (taskRow (now (ts .entry)) i)) 520008712000000 ⌝ }
 {
-    if v < figures::task_cell(r, vt, mt, ts, i, 0) {
+    if v < cells::task_cell(r, vt, mt, ts, i, 0) {
         sum_on(r, vt, mt, ts, rf, i, m)
     } else {
         0
@@ -450,7 +450,7 @@ fn wait_rows(
             k += 1;
             continue;
         }
-        search::push_row(rows, n, 0, figures::task_cell(r, vt, mt, ts, k, 2), cost);
+        search::push_row(rows, n, 0, cells::task_cell(r, vt, mt, ts, k, 2), cost);
         n += 1;
         k += 1;
     }

@@ -26,9 +26,9 @@ fn budget_of(r: PlanRecord, vt: &[u64], mt: &[u64], ts: &[u64], v: u64) -> u64
     let n = r.vcpus;
     let mut a = 0;
     while a < n {
-        let x = figures::vcpu_cell(r, vt, mt, ts, a, 0);
+        let x = cells::vcpu_cell(r, vt, mt, ts, a, 0);
         if x == v {
-            return figures::vcpu_cell(r, vt, mt, ts, a, 3);
+            return cells::vcpu_cell(r, vt, mt, ts, a, 3);
         }
         a += 1;
     }
@@ -40,8 +40,8 @@ fn ght_at(r: PlanRecord, vt: &[u64], mt: &[u64], ts: &[u64], v: u64, h: usize) -
     requires { ⌜ Fit r (now vt) (now mt) (now ts) × (h < r .tasks) ⌝ }
     ensures { λ x. ⌜ Is x (when (eqb (taskRow (now (ts .entry)) h .v) v) (longestGlobal (systemIn r (now (vt .entry)) (now (mt .entry)) (now (ts .entry))) (taskRow (now (ts .entry)) h))) 1000000 ⌝ }
 {
-    if figures::task_cell(r, vt, mt, ts, h, 0) == v {
-        figures::longest_global(r, vt, mt, ts, h)
+    if cells::task_cell(r, vt, mt, ts, h, 0) == v {
+        cells::longest_global(r, vt, mt, ts, h)
     } else {
         0
     }
@@ -89,7 +89,7 @@ fn local_owner(r: PlanRecord, vt: &[u64], mt: &[u64], ts: &[u64], m: u64) -> u64
 {
     let mut v: u64 = 16;
     while 0 < v {
-        if figures::is_local(r, vt, mt, ts, v, m) {
+        if cells::is_local(r, vt, mt, ts, v, m) {
             return v;
         }
         v -= 1;
@@ -102,7 +102,7 @@ fn owner_of(r: PlanRecord, vt: &[u64], mt: &[u64], ts: &[u64], m: u64) -> u64
     requires { ⌜ Fit r (now vt) (now mt) (now ts) ⌝ }
     ensures { λ x. ⌜ x ≡ ownerOf (systemIn r (now (vt .entry)) (now (mt .entry)) (now (ts .entry))) m ⌝ }
 {
-    if figures::is_global(r, vt, mt, ts, m) {
+    if cells::is_global(r, vt, mt, ts, m) {
         17
     } else {
         local_owner(r, vt, mt, ts, m)
@@ -117,7 +117,7 @@ fn has_task(r: PlanRecord, vt: &[u64], mt: &[u64], ts: &[u64], v: u64, n: u64) -
     let e = r.tasks;
     let mut a = 0;
     while a < e {
-        if figures::row_task(r, vt, mt, ts, a, v, n) {
+        if cells::row_task(r, vt, mt, ts, a, v, n) {
             return true;
         }
         a += 1;
@@ -147,7 +147,7 @@ fn view_cell(r: PlanRecord, vt: &[u64], mt: &[u64], ts: &[u64], k: u64) -> u64
         return owner_of(r, vt, mt, ts, k - 31);
     }
     if k < 96 {
-        return figures::ceiling_of(r, vt, mt, ts, k - 63);
+        return cells::ceiling_of(r, vt, mt, ts, k - 63);
     }
     bit_of(has_task(r, vt, mt, ts, (k - 96) / 8 + 1, (k - 96) % 8 + 1))
 }
@@ -210,12 +210,12 @@ fn mark_row(r: PlanRecord, vt: &[u64], mt: &[u64], ts: &[u64], a: usize, view: &
     requires { ⌜ Fit r (now vt) (now mt) (now ts) × (a < r .tasks) × (4320 ≤ length (now view)) ⌝ }
     ensures { λ out. ⌜ now (view .exit) ≡ markedBy (taskRow (now (ts .entry)) a) (now (view .entry)) ⌝ }
 {
-    let v = figures::task_cell(r, vt, mt, ts, a, 0);
-    let n = figures::task_cell(r, vt, mt, ts, a, 1);
-    let e = figures::lock_count(r, vt, mt, ts, a);
+    let v = cells::task_cell(r, vt, mt, ts, a, 0);
+    let n = cells::task_cell(r, vt, mt, ts, a, 1);
+    let e = cells::lock_count(r, vt, mt, ts, a);
     let mut j = 0;
     while j < e {
-        let m = figures::lock_cell(r, vt, mt, ts, a, j, 0);
+        let m = cells::lock_cell(r, vt, mt, ts, a, j, 0);
         mark(v, n, m, view);
         j += 1;
     }
