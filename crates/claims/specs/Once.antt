@@ -29,8 +29,8 @@ use Rattle.lockboard.specs.declared.BoardAnswer.{BoardAnswer}
 use Rattle.lockboard.specs.Events.{boardText}
 use Rattle.boards.specs.declared.FreshBoard.{FreshBoard}
 use Rattle.boards.specs.Entered.{freshFor, stepFor}
-use Rattle.sheets.specs.declared.Task.{Task}
-use Rattle.sheets.specs.Sheet.{tablesOf, sheetsAfter}
+use Rattle.records.specs.declared.Task.{Task}
+use Rattle.records.specs.Sheet.{tablesOf, sheetsAfter}
 use Rattle.sheets.specs.declared.Question.{Question}
 use Rattle.sheets.specs.declared.Replied.{Replied}
 use Rattle.sheets.specs.Replies.{replyTo}
@@ -40,7 +40,7 @@ use Rattle.codes.specs.Exported.{exported}
 pub both-once : {A B : Type 0} {a b x : A} {u w y : B} → (a ≡ x) × (u ≡ y) → (b ≡ x) × (w ≡ y) → (a ≡ b) × (u ≡ w)
 both-once p q = (once (p .0) (q .0), once (p .1) (q .1))
 
--- READING (reader, sheets)
+-- READING (reader, records)
 
 -- what reading into tables of numbers answers, and leaves
 abbrev Reads : List ℕ → Tables → PlanAnswer → Tables → Type 0

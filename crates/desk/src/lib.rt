@@ -170,7 +170,7 @@ fn events_text(plan: &[u8], src: &[u8], out: &mut [u8]) -> TextAnswer
     let mut mt = [0u64; 64];
     let mut ot = [0u64; 256];
     let mut ts = [0u64; 1856];
-    let a = sheets::read_rows(plan, &mut vt, &mut mt, &mut ot, &mut ts);
+    let a = records::read_rows(plan, &mut vt, &mut mt, &mut ot, &mut ts);
     answers_or(a, &vt, &mt, &ot, &ts, src, out)
 }
 
@@ -219,7 +219,7 @@ fn plan_text(src: &[u8], out: &mut [u8]) -> TextAnswer
     let mut mt = [0u64; 64];
     let mut ot = [0u64; 256];
     let mut ts = [0u64; 1856];
-    let a = sheets::read_rows(src, &mut vt, &mut mt, &mut ot, &mut ts);
+    let a = records::read_rows(src, &mut vt, &mut mt, &mut ot, &mut ts);
     listing_or(a, &vt, &mt, &ot, &ts, out)
 }
 

@@ -1,6 +1,6 @@
 -- The end of a function with two `ensures`.
 -- Assumes nothing.
-use Rattle.sheets.proofs.Kit.{List, URA, SProp, ent, sep, emp, via, Heap, Atoms, fact, Given, Item}
+use Rattle.records.proofs.Kit.{List, URA, SProp, ent, sep, emp, via, Heap, Atoms, fact, Given, Item}
 use base.Logic.{emp∗, monoL, comm∗, assoc∗}
 use types.Kit.{Step, step, prop}
 use contract.Monad.{factI}

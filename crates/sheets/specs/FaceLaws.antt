@@ -21,9 +21,10 @@ use Rattle.lockboard.specs.declared.Event.{Event}
 use Rattle.lockboard.specs.Board as board
 use Rattle.boards.specs.declared.FreshAnswer.the-variants.{Made, NoBoard}
 use Rattle.boards.specs.Entered.{noBoard, freshFor, stepFor}
-use Rattle.sheets.specs.Sheet.{Task, cutTo, tablesOf}
+use Rattle.records.specs.declared.Task.{Task}
+use Rattle.records.specs.Sheet.{cutTo, tablesOf}
 use Rattle.sheets.specs.Replies.{Question, IsGiven, VcpuTime, WaitTime, TaskTime, SectionResponse, Given, Row, TaskRow, Figure, replyTo}
-use Rattle.sheets.specs.CutLaws.{cut-told, cut-given}
+use Rattle.records.specs.CutLaws.{cut-told, cut-given}
 
 module _ (vt mt ot : List ℕ) (ks : List Task) (r : PlanRecord) where
   abbrev cut : Tables

@@ -1,8 +1,2 @@
-pub mod Sheet
-pub mod SheetLaws
-pub mod CutLaws
 pub mod Replies
 pub mod FaceLaws
-pub mod SaveLaws
-pub mod ReadLaws
-pub mod Blank

@@ -1,4 +1,4 @@
-// The tables with tasks as a lent slice of records: thin functions copy the records out, one after the other, and the covered functions over numbers do the work. What a record's numbers are stands in specs/Sheet.
+// What is asked of tables with tasks as a lent slice of records: the records' numbers are loaded, and the covered functions over numbers answer.
 use boards::FreshBoard;
 use entries::FigureAnswer;
 use entries::RowAnswer;
@@ -6,38 +6,16 @@ use entries::TaskRowAnswer;
 use lockboard::Board;
 use lockboard::Event;
 use lockboard::Outcome;
-use reader::PlanAnswer;
+use records::Task;
 use tables::PlanRecord;
 use writers::TextAnswer;
 ghost use mathlib.Core.Path.{_≡_};
-ghost use mathlib.Core.List.{[], _∷_, _++_};
-ghost use Prim.Native.Nat.{_+_, _*_, _<_, _≤_, min};
-ghost use lib.ListN.{length, getD, take, drop};
-ghost use lib.Seq.{sets};
-ghost use Rattle.tables.specs.Layout.{over};
+ghost use Prim.Native.Nat.{_≤_};
+ghost use lib.ListN.{length, take};
 ghost use Rattle.boards.specs.Entered.{freshFor, stepFor};
-ghost use Rattle.reader.specs.Into.{planAnswer, tablesAfter};
 ghost use Rattle.lister.specs.Asked.{listingAsked, listingLeft};
-ghost use Rattle.sheets.specs.Blank.{noTasks};
+ghost use Rattle.records.specs.Sheet.{tablesOf};
 ghost use Rattle.sheets.specs.Replies.{replyTo};
-ghost use Rattle.sheets.specs.Sheet.{noTask, taskNums, sheetRows, cutTo, tablesOf, noRows, lockOf, taskOf, saved, countOf, sheetsAfter};
-
-// A lock of a task: its mutex, the ticks under it, the run after it.
-pub struct Lock {
-    pub m: u64,
-    pub t: u64,
-    pub run: u64,
-}
-
-// A task: its VCPU, its number, its period, its first run, how many locks it has, and its locks.
-pub struct Task {
-    pub v: u64,
-    pub n: u64,
-    pub period: u64,
-    pub first: u64,
-    pub count: u64,
-    pub locks: [Lock; 8],
-}
 
 // What may be asked of lent tables: the test for 9, how late a VCPU can finish, how long task (v, n) can wait at a lock place, how late it can finish, and the response of its global section at a lock place.
 pub enum Question {
@@ -54,95 +32,6 @@ pub enum Replied {
     Row(RowAnswer),
     TaskRow(TaskRowAnswer),
     Figure(FigureAnswer),
-}
-
-// Room for the numbers of 64 records, all 0.
-fn no_rows() -> [u64; 1856]
-    ensures { λ r. ⌜ r ≡ noRows ⌝ }
-{
-    [0u64; 1856]
-}
-
-// The least of n and 64.
-fn few(n: usize) -> usize
-    ensures { λ r. ⌜ r ≡ min n 64 ⌝ }
-{
-    if n < 64 { n } else { 64 }
-}
-
-// The least of a, n and 64.
-fn few_of(a: usize, n: usize) -> usize
-    ensures { λ r. ⌜ r ≡ min a (min n 64) ⌝ }
-{
-    let k = few(n);
-    if a < k { a } else { k }
-}
-
-// How many numbers n records have.
-fn width(n: usize) -> usize
-    requires { ⌜ n ≤ 64 ⌝ }
-    ensures { λ r. ⌜ r ≡ n * 29 ⌝ }
-{
-    n * 29
-}
-
-// Writes three numbers from k on.
-fn put_three(d: &mut [u64], k: usize, a: u64, b: u64, c: u64)
-    requires { ⌜ k + 3 ≤ length (now d) ⌝ }
-    ensures { λ r. ⌜ now (d .exit) ≡ sets (now (d .entry)) k (a ∷ b ∷ c ∷ []) ⌝ }
-{
-    d[k] = a;
-    d[k + 1] = b;
-    d[k + 2] = c;
-}
-
-// Writes five numbers from k on.
-fn put_five(d: &mut [u64], k: usize, a: u64, b: u64, c: u64, e: u64, f: u64)
-    requires { ⌜ k + 5 ≤ length (now d) ⌝ }
-    ensures { λ r. ⌜ now (d .exit) ≡ sets (now (d .entry)) k (a ∷ b ∷ c ∷ e ∷ f ∷ []) ⌝ }
-{
-    d[k] = a;
-    d[k + 1] = b;
-    d[k + 2] = c;
-    d[k + 3] = e;
-    d[k + 4] = f;
-}
-
-// Writes the numbers of a record as row i.
-fn put_row(d: &mut [u64], i: usize, t: Task)
-    requires { ⌜ (i < 64) × (1856 ≤ length (now d)) ⌝ }
-    ensures { λ r. ⌜ now (d .exit) ≡ sets (now (d .entry)) (i * 29) (taskNums t) ⌝ }
-{
-    let k = i * 29;
-    put_five(d, k, t.v, t.n, t.period, t.first, t.count);
-    let mut j = 0;
-    while j < 8 {
-        let l = t.locks[j];
-        put_three(d, k + 5 + j * 3, l.m, l.t, l.run);
-        j += 1;
-    }
-}
-
-// The record at i.
-fn task_at(tasks: &[Task], i: usize) -> Task
-    requires { ⌜ i < length (now tasks) ⌝ }
-    ensures { λ r. ⌜ r ≡ getD (now (tasks .entry)) i noTask ⌝ }
-{
-    tasks[i]
-}
-
-// Copies the first n records, and no more than 64, into rows of numbers, and returns how many numbers they have.
-fn load(tasks: &[Task], rows: &mut [u64], n: usize) -> usize
-    requires { ⌜ 1856 ≤ length (now rows) ⌝ }
-    ensures { λ r. ⌜ (r ≡ length (sheetRows (cutTo (min n 64) (now (tasks .entry))))) × (now (rows .exit) ≡ over (sheetRows (cutTo (min n 64) (now (tasks .entry)))) (now (rows .entry))) ⌝ }
-{
-    let k = few_of(tasks.len(), n);
-    let mut i: usize = 0;
-    while i < k {
-        put_row(rows, i, task_at(tasks, i));
-        i += 1;
-    }
-    width(k)
 }
 
 // The reply, on rows of numbers.
@@ -197,8 +86,8 @@ pub fn reply(
 ) -> Replied
     ensures { λ a. ⌜ a ≡ replyTo r (tablesOf (now (vt .entry)) (now (mt .entry)) (now (ot .entry)) (now (tasks .entry))) q ⌝ }
 {
-    let mut rows = no_rows();
-    let c = load(tasks, &mut rows, 64);
+    let mut rows = records::no_rows();
+    let c = records::load(tasks, &mut rows, 64);
     reply_in(r, vt, mt, ot, &rows, q, c)
 }
 
@@ -214,8 +103,8 @@ fn fresh_in(r: PlanRecord, vt: &[u64], mt: &[u64], ot: &[u64], rows: &[u64], c: 
 pub fn fresh(r: PlanRecord, vt: &[u64], mt: &[u64], ot: &[u64], tasks: &[Task]) -> FreshBoard
     ensures { λ a. ⌜ a ≡ freshFor r (tablesOf (now (vt .entry)) (now (mt .entry)) (now (ot .entry)) (now (tasks .entry))) ⌝ }
 {
-    let mut rows = no_rows();
-    let c = load(tasks, &mut rows, 64);
+    let mut rows = records::no_rows();
+    let c = records::load(tasks, &mut rows, 64);
     fresh_in(r, vt, mt, ot, &rows, c)
 }
 
@@ -248,8 +137,8 @@ pub fn step(
 ) -> Outcome
     ensures { λ a. ⌜ a ≡ stepFor r (tablesOf (now (vt .entry)) (now (mt .entry)) (now (ot .entry)) (now (tasks .entry))) b e ⌝ }
 {
-    let mut rows = no_rows();
-    let c = load(tasks, &mut rows, 64);
+    let mut rows = records::no_rows();
+    let c = records::load(tasks, &mut rows, 64);
     step_in(b, r, vt, mt, ot, &rows, e, c)
 }
 
@@ -282,149 +171,7 @@ pub fn write_listing(
     ensures { λ a. ⌜ a ≡ listingAsked r (tablesOf (now (vt .entry)) (now (mt .entry)) (now (ot .entry)) (now (tasks .entry))) (now (out .entry)) ⌝ }
     ensures { λ a. ⌜ now (out .exit) ≡ listingLeft r (tablesOf (now (vt .entry)) (now (mt .entry)) (now (ot .entry)) (now (tasks .entry))) (now (out .entry)) ⌝ }
 {
-    let mut rows = no_rows();
-    let c = load(tasks, &mut rows, 64);
+    let mut rows = records::no_rows();
+    let c = records::load(tasks, &mut rows, 64);
     listing_in(r, vt, mt, ot, &rows, out, c)
-}
-
-// Lock j of row i.
-fn lock_of(rows: &[u64], i: usize, j: usize) -> Lock
-    requires { ⌜ (i < 64) × (j < 8) ⌝ }
-    ensures { λ a. ⌜ a ≡ lockOf (now (rows .entry)) i j ⌝ }
-{
-    let k = i * 29 + (5 + j * 3);
-    Lock {
-        m: tables::at(rows, k),
-        t: tables::at(rows, k + 1),
-        run: tables::at(rows, k + 2),
-    }
-}
-
-// The record of row i.
-fn task_of(rows: &[u64], i: usize) -> Task
-    requires { ⌜ i < 64 ⌝ }
-    ensures { λ a. ⌜ a ≡ taskOf (now (rows .entry)) i ⌝ }
-{
-    let ls = [
-        lock_of(rows, i, 0),
-        lock_of(rows, i, 1),
-        lock_of(rows, i, 2),
-        lock_of(rows, i, 3),
-        lock_of(rows, i, 4),
-        lock_of(rows, i, 5),
-        lock_of(rows, i, 6),
-        lock_of(rows, i, 7),
-    ];
-    let k = i * 29;
-    Task {
-        v: tables::at(rows, k),
-        n: tables::at(rows, k + 1),
-        period: tables::at(rows, k + 2),
-        first: tables::at(rows, k + 3),
-        count: tables::at(rows, k + 4),
-        locks: ls,
-    }
-}
-
-// How many records an answer writes.
-fn count_of(a: PlanAnswer) -> usize
-    ensures { λ r. ⌜ r ≡ countOf a ⌝ }
-{
-    match a {
-        PlanAnswer::Accepted(r) => r.tasks,
-        PlanAnswer::Refused { number: _, line: _ } => 0,
-    }
-}
-
-// Reads bytes offered as a plan, with room for n records.
-fn read_in(
-    src: &[u8],
-    vt: &mut [u64],
-    mt: &mut [u64],
-    ot: &mut [u64],
-    rows: &mut [u64],
-    n: usize,
-) -> PlanAnswer
-    requires { ⌜ 1856 ≤ length (now rows) ⌝ }
-    ensures { λ a. ⌜ (a ≡ planAnswer (now (src .entry)) (record { vcpus = now (vt .entry); mutexes = now (mt .entry); opens = now (ot .entry); tasks = take (min n 64 * 29) (now (rows .entry)) }))
-        × ((now (vt .exit) ≡ tablesAfter (now (src .entry)) (record { vcpus = now (vt .entry); mutexes = now (mt .entry); opens = now (ot .entry); tasks = take (min n 64 * 29) (now (rows .entry)) }) .vcpus)
-        × ((now (mt .exit) ≡ tablesAfter (now (src .entry)) (record { vcpus = now (vt .entry); mutexes = now (mt .entry); opens = now (ot .entry); tasks = take (min n 64 * 29) (now (rows .entry)) }) .mutexes)
-        × ((now (ot .exit) ≡ tablesAfter (now (src .entry)) (record { vcpus = now (vt .entry); mutexes = now (mt .entry); opens = now (ot .entry); tasks = take (min n 64 * 29) (now (rows .entry)) }) .opens)
-        × (now (rows .exit) ≡ tablesAfter (now (src .entry)) (record { vcpus = now (vt .entry); mutexes = now (mt .entry); opens = now (ot .entry); tasks = take (min n 64 * 29) (now (rows .entry)) }) .tasks ++ drop (min n 64 * 29) (now (rows .entry)))))) ⌝ }
-{
-    let k = width(few(n));
-    reader::read_plan(src, vt, mt, ot, &mut rows[..k])
-}
-
-// Writes the first n rows of numbers as records.
-fn save(tasks: &mut [Task], rows: &[u64], n: usize)
-    requires { ⌜ (n ≤ 64) × (n ≤ length (now tasks)) ⌝ }
-    ensures { λ a. ⌜ now (tasks .exit) ≡ saved (now (tasks .entry)) (now (rows .entry)) n ⌝ }
-{
-    let mut i: usize = 0;
-    while i < n {
-        let t = task_of(rows, i);
-        tasks[i] = t;
-        i += 1;
-    }
-}
-
-// Reads bytes offered as a plan into lent tables. A refusal leaves the tables as they were lent.
-pub fn read_plan(
-    src: &[u8],
-    vt: &mut [u64],
-    mt: &mut [u64],
-    ot: &mut [u64],
-    tasks: &mut [Task],
-) -> PlanAnswer
-    ensures { λ a. ⌜ (a ≡ planAnswer (now (src .entry)) (tablesOf (now (vt .entry)) (now (mt .entry)) (now (ot .entry)) (now (tasks .entry))))
-        × ((now (vt .exit) ≡ tablesAfter (now (src .entry)) (tablesOf (now (vt .entry)) (now (mt .entry)) (now (ot .entry)) (now (tasks .entry))) .vcpus)
-        × ((now (mt .exit) ≡ tablesAfter (now (src .entry)) (tablesOf (now (vt .entry)) (now (mt .entry)) (now (ot .entry)) (now (tasks .entry))) .mutexes)
-        × ((now (ot .exit) ≡ tablesAfter (now (src .entry)) (tablesOf (now (vt .entry)) (now (mt .entry)) (now (ot .entry)) (now (tasks .entry))) .opens)
-        × (now (tasks .exit) ≡ sheetsAfter (now (src .entry)) (now (vt .entry)) (now (mt .entry)) (now (ot .entry)) (now (tasks .entry)))))) ⌝ }
-{
-    let mut rows = no_rows();
-    let a = read_in(src, vt, mt, ot, &mut rows, tasks.len());
-    let n = count_of(a);
-    save(tasks, &rows, n);
-    a
-}
-
-// A table of 64 blank records.
-fn no_tasks() -> [Task; 64]
-    ensures { λ r. ⌜ r ≡ noTasks ⌝ }
-{
-    let l = Lock { m: 0, t: 0, run: 0 };
-    let ls = [l; 8];
-    let t = Task {
-        v: 0,
-        n: 0,
-        period: 0,
-        first: 0,
-        count: 0,
-        locks: ls,
-    };
-    [t; 64]
-}
-
-// Reads bytes offered as a plan into a table of 64 records, and copies the records of its tasks into lent rows of numbers, all 0.
-pub fn read_rows(
-    src: &[u8],
-    vt: &mut [u64],
-    mt: &mut [u64],
-    ot: &mut [u64],
-    rows: &mut [u64],
-) -> PlanAnswer
-    requires { ⌜ now rows ≡ noRows ⌝ }
-    ensures { λ a. ⌜ (a ≡ planAnswer (now (src .entry)) (tablesOf (now (vt .entry)) (now (mt .entry)) (now (ot .entry)) noTasks))
-        × ((now (vt .exit) ≡ tablesAfter (now (src .entry)) (tablesOf (now (vt .entry)) (now (mt .entry)) (now (ot .entry)) noTasks) .vcpus)
-        × ((now (mt .exit) ≡ tablesAfter (now (src .entry)) (tablesOf (now (vt .entry)) (now (mt .entry)) (now (ot .entry)) noTasks) .mutexes)
-        × ((now (ot .exit) ≡ tablesAfter (now (src .entry)) (tablesOf (now (vt .entry)) (now (mt .entry)) (now (ot .entry)) noTasks) .opens)
-        × (now (rows .exit) ≡ tablesAfter (now (src .entry)) (tablesOf (now (vt .entry)) (now (mt .entry)) (now (ot .entry)) noTasks) .tasks)))) ⌝ }
-{
-    let mut tasks = no_tasks();
-    let a = read_plan(src, vt, mt, ot, &mut tasks);
-    let n = count_of(a);
-    load(&tasks, rows, n);
-    a
 }

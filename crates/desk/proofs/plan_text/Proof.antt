@@ -2,8 +2,8 @@
 use mathlib.Core.Path.{refl}
 use native.Mathlib.Omega.{arith}
 use borrow.Author.Needs.{needs}
-use Rattle.sheets.specs.Sheet.{noRows}
-use Rattle.sheets.specs.Blank.{blank-long}
+use Rattle.records.specs.Sheet.{noRows}
+use Rattle.records.specs.Blank.{blank-long}
 use Rattle.desk.specs.Told.{left-sure, left-verdict}
 use Rattle.desk.proofs.plan_text.Statement.{statement}
 use Rattle.desk.proofs.plan_text.Tie as tie

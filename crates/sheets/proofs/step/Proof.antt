@@ -1,7 +1,7 @@
 -- `sheets::step` meets its contract: a walk of its MIR, by hand. An event on the board, over lent tables.
 -- A local of numbers is lent as a `&mut [u64]` to `load`, beside the records, taken back, and lent as a `&[u64]` to `step_in`, which is covered. All that the proof knows of each callee is that it meets its contract.
 -- Assumes nothing.
-use Rattle.sheets.proofs.Kit.{refl, sym, ap, _≡_, _∙_, ℕ, [], _∷_, List, length, URA, named, w64, mut, Val, SProp, ent, emp, via, fst∗, id⊢, exE, snd∗, GName, Lft, Share, ftrue, flft, fat, fsep, froom, flent, Memory, Routine, Heap, Calls, Loops, WpFn, Tables, Atoms, sem, Fun, fact, givenOf, tables, tablesOf, Given, ‵, _⊛_, ⋆, _$_, _∵_, !, qed, by, move, suffices, frame, done, split, join, rewrite, fsplit, fjoin, drop, feqI, raw, some, later, use0, use1, use2, pick, await, use3, look, init, forget, stop, from, load, of-opd, assigns, returns, enter, alloc1, alloc0, params1, pass1, pass0, free1, free0, and-then, no-more, land, addr, agg, WpFn-mono, FmC, fmOf, owns, Is, shows, uint-makes, uint-lawful, usize, u64, sliceVal, ShrSlice, Room, slice-vals, shr-slice-tells, shr-slice-copy, plain, owned, nothing, peeks, heard, Vals, onEntry, Meets, tripleOf, entered, cited, says, Stays, stay-none-slice, walkOf, goes-none-slice, Walks, ends-at, walked, walk-meets, stay-none, goes-none, yes, RefT, arith, fullShare, row, whole-in, whole-out, Held, lends-slice, slice-back, lends-shr-slice, lit<, shares, Contract, Triple, calls-at, ensured, lasts, lft-new, lft-end, lent-back, cells, Arr, arr-parts, Lfts, lit}
+use Rattle.records.proofs.Kit.{refl, sym, ap, _≡_, _∙_, ℕ, [], _∷_, List, length, URA, named, w64, mut, Val, SProp, ent, emp, via, fst∗, id⊢, exE, snd∗, GName, Lft, Share, ftrue, flft, fat, fsep, froom, flent, Memory, Routine, Heap, Calls, Loops, WpFn, Tables, Atoms, sem, Fun, fact, givenOf, tables, tablesOf, Given, ‵, _⊛_, ⋆, _$_, _∵_, !, qed, by, move, suffices, frame, done, split, join, rewrite, fsplit, fjoin, drop, feqI, raw, some, later, use0, use1, use2, pick, await, use3, look, init, forget, stop, from, load, of-opd, assigns, returns, enter, alloc1, alloc0, params1, pass1, pass0, free1, free0, and-then, no-more, land, addr, agg, WpFn-mono, FmC, fmOf, owns, Is, shows, uint-makes, uint-lawful, usize, u64, sliceVal, ShrSlice, Room, slice-vals, shr-slice-tells, shr-slice-copy, plain, owned, nothing, peeks, heard, Vals, onEntry, Meets, tripleOf, entered, cited, says, Stays, stay-none-slice, walkOf, goes-none-slice, Walks, ends-at, walked, walk-meets, stay-none, goes-none, yes, RefT, arith, fullShare, row, whole-in, whole-out, Held, lends-slice, slice-back, lends-shr-slice, lit<, shares, Contract, Triple, calls-at, ensured, lasts, lft-new, lft-end, lent-back, cells, Arr, arr-parts, Lfts, lit}
 use lib.ListN.{take}
 use types.Run.{load as read}
 use denote.Memory.{mem as inMem}
@@ -9,11 +9,12 @@ use denote.Enum.Laws as EL
 use denote.Struct.Laws as LL
 use Rattle.boards.specs.Entered.{stepFor}
 use Rattle.sheets.specs.FaceLaws.{step-cut}
-use Rattle.sheets.specs.Sheet.{Task, noRows, sheetRows, cutTo}
-use Rattle.sheets.specs.SheetLaws.{loaded-few, loaded-front}
-use Rattle.sheets.proofs.Lent.{val, ToRead, lent, shared, big-lit, R, rows, none-long, none-room, Z, Z-long, Z-room, rows-typed, to-row, to-room}
-use Rattle.sheets.proofs.Face.{with′, x, s, Mut, Shr, tasks-val, Own-tasks, None, Load, to-none, to-load, goes-none as goes-no-rows, goes-load, none-said}
-use Rattle.sheets.proofs.Task as T
+use Rattle.records.specs.declared.Task.{Task}
+use Rattle.records.specs.Sheet.{noRows, sheetRows, cutTo}
+use Rattle.records.specs.SheetLaws.{loaded-few, loaded-front}
+use Rattle.records.proofs.Lent.{val, ToRead, lent, shared, big-lit, R, rows, none-long, none-room, Z, Z-long, Z-room, rows-typed, to-row, to-room}
+use Rattle.records.proofs.Face.{with′, x, s, Mut, Shr, tasks-val, Own-tasks, None, Load, to-none, to-load, goes-none as goes-no-rows, goes-load, none-said}
+use Rattle.records.proofs.Task as T
 use Rattle.lockboard.specs.declared.Board.{Board}
 use Rattle.lockboard.proofs.Board as B
 use Rattle.lockboard.proofs.Board.Laws as B′
@@ -26,14 +27,14 @@ use Rattle.lockboard.proofs.Event.Laws as E′
 use Rattle.lockboard.specs.declared.Outcome.{Outcome}
 use Rattle.lockboard.proofs.Outcome as O
 use Rattle.lockboard.proofs.Outcome.Laws as O′
-use Rattle.sheets.proofs.no_rows as none
-use Rattle.sheets.proofs.no_rows.Symbol as none-def
-use Rattle.sheets.proofs.no_rows.Symbol.{name as #sheets·no-rows}
-use Rattle.sheets.proofs.no_rows.Met as none-thm
-use Rattle.sheets.proofs.load as load
-use Rattle.sheets.proofs.load.Symbol as load-def
-use Rattle.sheets.proofs.load.Symbol.{name as #sheets·load}
-use Rattle.sheets.proofs.load.Met as load-thm
+use Rattle.records.proofs.no_rows as none
+use Rattle.records.proofs.no_rows.Symbol as none-def
+use Rattle.records.proofs.no_rows.Symbol.{name as #records·no-rows}
+use Rattle.records.proofs.no_rows.Met as none-thm
+use Rattle.records.proofs.load as load
+use Rattle.records.proofs.load.Symbol as load-def
+use Rattle.records.proofs.load.Symbol.{name as #records·load}
+use Rattle.records.proofs.load.Met as load-thm
 use Rattle.sheets.proofs.step_in as work
 use Rattle.sheets.proofs.step_in.Symbol as work-def
 use Rattle.sheets.proofs.step_in.Symbol.{name as #sheets·step-in}
@@ -85,7 +86,7 @@ module _ {M : Type 1} (𝓤 : URA M) (H : Heap 𝓤) (A : Atoms 𝓤) (W : Given
     work-said : (a : Outcome) → ent 𝓤 (ensured 𝓤 H A work.ended (work.clauses 𝓤 H A mem run) (κ₀, (κ₁, (κ₂, (α, tt)))) (b, (r, (vt, (mt, (ot, (x l γ (Z ts), (ev, (c, tt)))))))) tt a) (fact 𝓤 (Said a (take c (Z ts))))
     work-said a = exE 𝓤 _ (λ ws. snd∗ 𝓤 (sem 𝓤 H A (lasts work.ended (κ₀, (κ₁, (κ₂, (α, tt)))) (b, (r, (vt, (mt, (ot, (x l γ (Z ts), (ev, (c, tt)))))))) ws)) (fact 𝓤 (Said a (take c (Z ts)))))
 
-  module _ (C : Calls 𝓤 H) (Λ : Loops 𝓤 H) (fm : FmC 𝓤 H (W .laws) C) (k-none : Triple 𝓤 (C #sheets·no-rows) (None 𝓤 H A mem run)) (k-load : Triple 𝓤 (C #sheets·load) (Load 𝓤 H A mem run)) (k-work : Triple 𝓤 (C #sheets·step-in) (Work 𝓤 H A mem run)) where
+  module _ (C : Calls 𝓤 H) (Λ : Loops 𝓤 H) (fm : FmC 𝓤 H (W .laws) C) (k-none : Triple 𝓤 (C #records·no-rows) (None 𝓤 H A mem run)) (k-load : Triple 𝓤 (C #records·load) (Load 𝓤 H A mem run)) (k-work : Triple 𝓤 (C #sheets·step-in) (Work 𝓤 H A mem run)) where
     walk : ent 𝓤 (onEntry 𝓤 H A f.signature κs (q₀, (q₁, (q₂, (q₃, tt)))) (b, (r, (vt, (mt, (ot, (tasks, (ev, tt))))))) at) (WpFn 𝓤 H C Λ code.function (b-val ∷ r-val ∷ val vt ∷ val mt ∷ val ot ∷ tasks-val tasks ∷ ev-val ∷ []) Post)
     walk =
         qed W ((‵ (flft κ₀ q₀) ⊛ ‵ (flft κ₁ q₁) ⊛ ‵ (flft κ₂ q₂) ⊛ ‵ (flft κ₃ q₃) ⊛ ‵ ftrue) ∷ ‵ (owns (B.the-row ∷ P.the-row ∷ ShrSlice (named 0) κ₀ u64 ∷ ShrSlice (named 1) κ₁ u64 ∷ ShrSlice (named 2) κ₂ u64 ∷ ShrSlice (named 3) κ₃ T.the-row ∷ E.the-row ∷ []) (b, (r, (vt, (mt, (ot, (tasks, (ev, tt))))))) at) ∷ []) ∵ enter ! C Λ code.function (b-val ∷ r-val ∷ val vt ∷ val mt ∷ val ot ∷ tasks-val tasks ∷ ev-val ∷ []) _ $
@@ -139,13 +140,13 @@ module _ {M : Type 1} (𝓤 : URA M) (H : Heap 𝓤) (A : Atoms 𝓤) (W : Given
         move ! (3 ∷ 2 ∷ 1 ∷ 0 ∷ 4 ∷ 8 ∷ 7 ∷ 6 ∷ 5 ∷ []) $ by ! (exits a w₂ (e ∙ ap (λ (u : List ℕ). stepFor r (with′ vt mt ot u) b ev) (ap (λ (m : ℕ). take m (Z ts)) (e₁ .0) ∙ loaded-front ts) ∙ step-cut (vt .now) (mt .now) (ot .now) ts r b ev))))))))))))))))))))))))))))))))))
 
 module _ {M : Type 1} (𝓤 : URA M) (H : Heap 𝓤) (A : Atoms 𝓤) (W : Given 𝓤 H A) (mem : Memory → SProp 𝓤) (run : Routine → Fun 𝓤) where
-  step-walks : (C : Calls 𝓤 H) (Λ : Loops 𝓤 H) → FmC 𝓤 H (W .laws) C → Triple 𝓤 (C #sheets·no-rows) (None 𝓤 H A mem run) → Triple 𝓤 (C #sheets·load) (Load 𝓤 H A mem run) → Triple 𝓤 (C #sheets·step-in) (Work 𝓤 H A mem run)
+  step-walks : (C : Calls 𝓤 H) (Λ : Loops 𝓤 H) → FmC 𝓤 H (W .laws) C → Triple 𝓤 (C #records·no-rows) (None 𝓤 H A mem run) → Triple 𝓤 (C #records·load) (Load 𝓤 H A mem run) → Triple 𝓤 (C #sheets·step-in) (Work 𝓤 H A mem run)
       → Walks 𝓤 H A f.ended stayed (WpFn 𝓤 H C Λ code.function) (f.clauses 𝓤 H A mem run)
   step-walks C Λ fm kn kl kw =
       walked 𝓤 H A f.ended stayed (f.clauses 𝓤 H A mem run) (WpFn 𝓤 H C Λ code.function) (λ κs. (LL.vals B.the-type B′.the-laws, (LL.vals P.the-type P′.the-laws, (slice-vals, (slice-vals, (slice-vals, (slice-vals, (EL.vals E.the-type E′.the-laws, tt)))))))) (λ κs. (LL.tells B.the-type B′.the-laws, (LL.tells P.the-type P′.the-laws, (shr-slice-tells (named 0) (κs .0) u64, (shr-slice-tells (named 1) (κs .1 .0) u64, (shr-slice-tells (named 2) (κs .1 .1 .0) u64, (shr-slice-tells (named 3) (κs .1 .1 .1 .0) T.the-row, (EL.tells E.the-type E′.the-laws, tt))))))))
       (λ κs qs bounds a _ are. via 𝓤 _ (fst∗ 𝓤 _ (emp 𝓤)) (walk 𝓤 H A W mem run (κs .0) (κs .1 .0) (κs .1 .1 .0) (κs .1 .1 .1 .0) (qs .0) (qs .1 .0) (qs .1 .1 .0) (qs .1 .1 .1 .0) (a .1 .1 .0) (a .1 .1 .1 .0) (a .1 .1 .1 .1 .0) (a .1 .1 .1 .1 .1 .0) (a .0) _ (are .0) (a .1 .0) _ (are .1 .0) (a .1 .1 .1 .1 .1 .1 .0) _ (are .1 .1 .1 .1 .1 .1 .0) (are .1 .1 .0 .0 .1) (are .1 .1 .1 .0 .0 .1) (are .1 .1 .1 .1 .0 .0 .1) (are .1 .1 .1 .1 .1 .0 .0 .1) C Λ fm kn kl kw))
 
-step-meets : {M : Type 1} (𝓤 : URA M) (H : Heap 𝓤) (A : Atoms 𝓤) (W : Given 𝓤 H A) (mem : Memory → SProp 𝓤) (run : Routine → Fun 𝓤) (𝓣 : Tables 𝓤 H) → Triple 𝓤 (𝓣 .C #sheets·no-rows) (None 𝓤 H A mem run) → Triple 𝓤 (𝓣 .C #sheets·load) (Load 𝓤 H A mem run) → Triple 𝓤 (𝓣 .C #sheets·step-in) (Work 𝓤 H A mem run)
+step-meets : {M : Type 1} (𝓤 : URA M) (H : Heap 𝓤) (A : Atoms 𝓤) (W : Given 𝓤 H A) (mem : Memory → SProp 𝓤) (run : Routine → Fun 𝓤) (𝓣 : Tables 𝓤 H) → Triple 𝓤 (𝓣 .C #records·no-rows) (None 𝓤 H A mem run) → Triple 𝓤 (𝓣 .C #records·load) (Load 𝓤 H A mem run) → Triple 𝓤 (𝓣 .C #sheets·step-in) (Work 𝓤 H A mem run)
     → Meets 𝓤 H A f.signature (WpFn 𝓤 H (𝓣 .C) (𝓣 .Λ) code.function) (f.spec 𝓤 H A mem run)
 step-meets 𝓤 H A W mem run 𝓣 kn kl kw =
     walk-meets 𝓤 H A f.ended stayed W (goes-none 𝓤 H A W 4 (λ _. B.the-row) yes (λ κs x f. refl), (goes-none 𝓤 H A W 4 (λ _. P.the-row) yes (λ κs x f. refl), (goes-none-slice 𝓤 H A W 4 (0 ∷ []) tt (plain (λ _. u64)) yes, (goes-none-slice 𝓤 H A W 4 (1 ∷ []) tt (plain (λ _. u64)) yes, (goes-none-slice 𝓤 H A W 4 (2 ∷ []) tt (plain (λ _. u64)) yes, (goes-none-slice 𝓤 H A W 4 (3 ∷ []) tt (plain (λ _. T.the-row)) yes, (goes-none 𝓤 H A W 4 (λ _. E.the-row) yes (λ κs x f. refl), tt))))))) (f.clauses 𝓤 H A mem run) (WpFn 𝓤 H (𝓣 .C) (𝓣 .Λ) code.function) (WpFn-mono 𝓤 H (W .laws) 𝓣 code.function)
@@ -157,6 +158,6 @@ step-spec 𝓤 H 𝓜 𝓖 𝓡 =
     entered 𝓤 H (tripleOf 𝓤 H (𝓖 .A) f.signature (f.spec 𝓤 H (𝓖 .A) (𝓜 .mem) (𝓡 .run)))
     (tables 𝓤 H 𝓜 𝓡 code.env .C) (tables 𝓤 H 𝓜 𝓡 code.env .Λ) #sheets·step code.function (code.unfolded 𝓤 H 𝓜 𝓡)
     (step-meets 𝓤 H (𝓖 .A) (givenOf 𝓤 H 𝓜 𝓖) (𝓜 .mem) (𝓡 .run) (tablesOf 𝓤 H 𝓜 (tables 𝓤 H 𝓜 𝓡 code.env))
-    (cited 𝓤 H (None 𝓤 H (𝓖 .A) (𝓜 .mem) (𝓡 .run)) 𝓜 𝓡 code.env #sheets·no-rows none-def.routine code.calls-sheets·no-rows (none-thm.met 𝓤 H 𝓜 𝓖 𝓡))
-    (cited 𝓤 H (Load 𝓤 H (𝓖 .A) (𝓜 .mem) (𝓡 .run)) 𝓜 𝓡 code.env #sheets·load load-def.routine code.calls-sheets·load (load-thm.met 𝓤 H 𝓜 𝓖 𝓡))
+    (cited 𝓤 H (None 𝓤 H (𝓖 .A) (𝓜 .mem) (𝓡 .run)) 𝓜 𝓡 code.env #records·no-rows none-def.routine code.calls-records·no-rows (none-thm.met 𝓤 H 𝓜 𝓖 𝓡))
+    (cited 𝓤 H (Load 𝓤 H (𝓖 .A) (𝓜 .mem) (𝓡 .run)) 𝓜 𝓡 code.env #records·load load-def.routine code.calls-records·load (load-thm.met 𝓤 H 𝓜 𝓖 𝓡))
     (cited 𝓤 H (Work 𝓤 H (𝓖 .A) (𝓜 .mem) (𝓡 .run)) 𝓜 𝓡 code.env #sheets·step-in work-def.routine code.calls-sheets·step-in (work-thm.met 𝓤 H 𝓜 𝓖 𝓡)))

@@ -1,0 +1,5 @@
+pub mod Kit
+pub mod Lent
+pub mod Face
+pub mod LentTasks
+pub mod Counted
