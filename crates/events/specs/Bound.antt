@@ -1,6 +1,6 @@
 -- No answers are longer than ten times the events: a refusal by 1 or 2 has 10 bytes and its line at least its LF;
 -- any other answer has at most 30, and its line a word of at least 3 bytes and its LF.
-use Prim.Native.Nat.{ℕ, zero, suc, _+_, _-_, _*_, _^_, _≤_, _<_, max}
+use Prim.Native.Nat.{ℕ, zero, suc, _+_, _-_, _*_, _≤_, max}
 use mathlib.Core.Path.{_≡_, refl, ap, sym, _∙_}
 use mathlib.Core.List.{List, [], _∷_}
 use mathlib.Core.Option.{Option, some, none}
@@ -12,8 +12,6 @@ use Rattle.laws.specs.BoolLaws.{both-left}
 use Rattle.laws.specs.Bytes.{pieces, joined, same}
 use Rattle.laws.specs.BytesLaws.{joined-pieces, same-equal}
 use Rattle.laws.specs.Choice.{if_then_else_}
-use Rattle.laws.specs.Decimal.{decimal}
-use Rattle.laws.specs.DecimalLaws.{decimal-length}
 use Rattle.laws.specs.Fields.{before, count, fieldsTo}
 use Rattle.laws.specs.RangeLaws.{highest-le}
 use Rattle.laws.specs.Sums.{flat}
@@ -21,18 +19,13 @@ use Rattle.laws.specs.Steps.{before-le, pieces-fields}
 use Rattle.model.specs.Limits.{maxV, maxN, maxPeriod, maxLength, maxTasks, tab, lf}
 use Rattle.model.specs.declared.Kind.{Kind}
 use Rattle.model.specs.declared.Kind.the-variants.{PlanLine, PolicyPO, PolicyPN, PolicyDO, PolicyDN, VcpuLine, MutexG, MutexL, OpenLine, GuestLine, TaskLine, RunLine, LockLine, EndLine, AskLine, FreeLine, UseLine, TopLine, ShowLine}
-use Rattle.model.specs.declared.Refusal.{Refusal}
-use Rattle.model.specs.declared.Refusal.the-variants.{Shape, Number, Range, Order, Missing, Outside, TooMany, Room, Foreign, Unknown, Unlisted, Asleep, Busy, NotHolder, Supply}
+use Rattle.model.specs.declared.Refusal.the-variants.{Shape, Unknown}
 use Rattle.model.specs.declared.Fault.{Fault}
 use Rattle.model.specs.declared.Fault.the-variants.{Clear, Bad}
-use Rattle.model.specs.Refusals.{numberOf}
 use Rattle.model.specs.Line.{Form, Word, Item, shape, kinds, hasShape, itemOf, written, wAsk, wFree, wUse, wTop, wShow}
 use Rattle.lines.specs.Said.{saidOf}
 use Rattle.lines.specs.SaidLaws.{kind-has, item-is}
-use Rattle.listing.specs.Listing.{line, dash, wRefused}
-use Rattle.letters.specs.Wrote.{Sized}
-use Rattle.letters.specs.SizeLaws.{rest-sized, end-sized}
-use Rattle.writers.specs.SizeLaws.{line-sized}
+use Rattle.listing.specs.Listing.{line}
 use Rattle.lockboard.specs.Facts.{Facts}
 use Rattle.lockboard.specs.declared.Board.{Board}
 use Rattle.lockboard.specs.declared.Event.{Event}
@@ -43,72 +36,15 @@ use Rattle.lockboard.specs.declared.BoardAnswer.{BoardAnswer}
 use Rattle.lockboard.specs.declared.BoardAnswer.the-variants.{Granted, Waits, Freed, Left, Refused}
 use Rattle.lockboard.specs.declared.Outcome.{Outcome}
 use Rattle.lockboard.specs.Board.{seat, leftOf, overOf, waitOf, withLeft, withHolder, withWait, settled, complete, handedTo, grantedLocal, nextOf, waiterV, waiterN, nextGlobal, localN, nextLocal, mayHave, passes, asked, freed, freedGlobal, freedLocal, used, topped, heldGlobal, heldLocal, raisedBy, taskPriority, vcpuPriority, holdsGlobal, shown, answered, askFault, freeFault, useFault, topFault, showFault, step, good}
-use Rattle.lockboard.specs.Events.{eventOf, onEvent, onItem, onLine, lineAnswers, wGranted, wWaits, wFreed, wLeft, answerFields, answersText}
+use Rattle.lockboard.specs.Events.{eventOf, onEvent, onItem, onLine, lineAnswers, wFreed, wLeft, answerFields, answersText}
 use Rattle.keeps.specs.Fair.{Fair, InV, InN, task-v}
 use Rattle.keeps.specs.Good.{good-sound}
 use Rattle.keeps.specs.Faults.{clear-test, free-clear, use-clear, top-clear}
-use Rattle.events.specs.Parts.{endText}
-use Rattle.events.specs.PartsLaws.{end-none, end-some}
+use Rattle.replies.specs.Parts.{endText}
+use Rattle.replies.specs.PartsLaws.{end-none, end-some}
+use Rattle.replies.specs.Short.{Short, pair-long, plain-long, refused-short, shape-ten, number-ten}
 use Rattle.events.specs.LoopLaws.{end-text, lines-last, lines-more, text-more}
 use Rattle.events.specs.Small.{Small}
-
--- THE SIZES OF LINES
-
-decimal-sized : (w n : ℕ) → 0 < w → n < 10 ^ w → Sized (decimal n) w (length (decimal n))
-decimal-sized w n p h = record { is = refl; small = decimal-length w n p h }
-
--- a word and a number of at most d digits
-one-long : (w : List ℕ) (d n : ℕ) → 0 < d → n < 10 ^ d → length (line (w ∷ decimal n ∷ [])) ≤ d + 2 + length w
-one-long w d n p h =
-    let s = line-sized w (decimal n ∷ []) (rest-sized [] (decimal-sized d n p h) end-sized) in
-    let a = s .is in let b = s .small in omega arith
-
--- a word of at most 5 bytes, a number of at most 7 digits and one of at most 8
-pair-long : (w : List ℕ) (x y : ℕ) → length w ≤ 5 → x ≤ maxPeriod → y ≤ maxTasks * maxLength → length (line (w ∷ decimal x ∷ decimal y ∷ [])) ≤ 30
-pair-long w x y l h k =
-    let s = line-sized w (decimal x ∷ decimal y ∷ []) (rest-sized (decimal y ∷ []) (decimal-sized 7 x (omega arith) (omega arith)) (rest-sized [] (decimal-sized 8 y (omega arith) (omega arith)) end-sized)) in
-    let a = s .is in let b = s .small in omega arith
-
-plain-long : (length (line (wGranted ∷ [])) ≤ 30) × (length (line (wWaits ∷ [])) ≤ 30) × (length (line (wFreed ∷ dash ∷ dash ∷ [])) ≤ 30)
-unfolding line joined
-plain-long = (omega arith, omega arith, omega arith)
-
--- an answer's line has at most 30 bytes
-abbrev Short : BoardAnswer → Type 0
-Short a = length (line (answerFields a)) ≤ 30
-
-number-low : (r : Refusal) → numberOf r < 10 ^ 2
-unfolding numberOf
-number-low r =
-    elim r [
-      | Shape ↦ omega arith
-      | Number ↦ omega arith
-      | Range ↦ omega arith
-      | Order ↦ omega arith
-      | Missing ↦ omega arith
-      | Outside ↦ omega arith
-      | TooMany ↦ omega arith
-      | Room ↦ omega arith
-      | Foreign ↦ omega arith
-      | Unknown ↦ omega arith
-      | Unlisted ↦ omega arith
-      | Asleep ↦ omega arith
-      | Busy ↦ omega arith
-      | NotHolder ↦ omega arith
-      | Supply ↦ omega arith
-    ]
-
-refused-short : (r : Refusal) → Short (Refused r)
-refused-short r = let a = one-long wRefused 2 (numberOf r) (omega arith) (number-low r) in omega arith
-
--- a refusal by 1 or 2
-shape-ten : length (line (answerFields (Refused Shape))) ≤ 10
-unfolding numberOf
-shape-ten = let a = one-long wRefused 1 1 (omega arith) (omega arith) in omega arith
-
-number-ten : length (line (answerFields (Refused Number))) ≤ 10
-unfolding numberOf
-number-ten = let a = one-long wRefused 1 2 (omega arith) (omega arith) in omega arith
 
 -- THE BOARD stays within small budgets, and each answer is short
 

@@ -1,5 +1,5 @@
-pub mod Parts
-pub mod PartsLaws
+pub mod Told
+pub mod ToldLaws
 pub mod LoopLaws
 pub mod Small
 pub mod Bound

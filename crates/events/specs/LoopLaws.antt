@@ -2,7 +2,7 @@
 use Prim.Native.Nat.{ℕ, suc, _+_, _*_, _-_, _≤_}
 use mathlib.Core.Path.{_≡_, refl, ap, sym, _∙_}
 use mathlib.Core.List.{List, [], _∷_, _++_, append-assoc, append-nil}
-use mathlib.Core.Bool.{true, false, true≢false}
+use mathlib.Core.Bool.{false, true≢false}
 use native.Mathlib.Omega.{arith}
 use lib.ListN.{length, take, drop, length-append, length-take, length-drop, take-append-drop}
 use lib.Seq.{take-at, drop-at, drop-drop, length-take-le}
@@ -22,8 +22,8 @@ use Rattle.lockboard.specs.declared.BoardAnswer.{BoardAnswer}
 use Rattle.lockboard.specs.declared.BoardAnswer.the-variants.{Refused}
 use Rattle.lockboard.specs.declared.Outcome.{Outcome}
 use Rattle.lockboard.specs.Events.{onLine, atEnd, lineAnswers, answerFields, answersText}
-use Rattle.events.specs.Parts.{endText}
-use Rattle.events.specs.PartsLaws.{end-none, end-some}
+use Rattle.replies.specs.Parts.{endText}
+use Rattle.replies.specs.PartsLaws.{end-none, end-some}
 
 -- the answers to the lines of s, on the board b
 abbrev pub repliesTo : Facts → Board → List ℕ → List ℕ

@@ -8,7 +8,7 @@ use Rattle.model.specs.Limits.{lf}
 use Rattle.listing.specs.Listing.{line}
 use Rattle.lockboard.specs.View.{factsIn}
 use Rattle.lockboard.specs.Events.{answerFields}
-use Rattle.events.specs.Parts.{endText}
+use Rattle.replies.specs.Parts.{endText}
 use Rattle.events.specs.LoopLaws.{repliesTo, line-fits, replies-last, replies-next, Sizes, sizes-more, sizes-last, sizes-small}
 use Rattle.events.proofs.answers_size.Statement.{statement}
 use Rattle.events.proofs.answers_size.Tie as tie

@@ -4,8 +4,8 @@ use mathlib.Core.Path.{ap}
 use mathlib.Core.List.{_++_}
 use lib.ListN.{take}
 use Rattle.letters.specs.WroteLaws.{wrote-as}
-use Rattle.events.specs.Parts.{endText}
-use Rattle.events.specs.PartsLaws.{end-none, end-some}
+use Rattle.replies.specs.Parts.{endText}
+use Rattle.replies.specs.PartsLaws.{end-none, end-some}
 use Rattle.events.specs.LoopLaws.{room-as, wrote-nothing}
 use Rattle.events.proofs.end_at.Statement.{statement}
 use Rattle.events.proofs.end_at.Tie as tie

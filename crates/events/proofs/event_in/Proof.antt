@@ -5,7 +5,7 @@ use mathlib.Core.Path.{ap, sym}
 use Rattle.model.specs.declared.Kind.{Kind}
 use Rattle.model.specs.Line.{shape, size, numsOf}
 use Rattle.lockboard.specs.Events.{eventOf}
-use Rattle.events.specs.Parts.{Told, toldOf}
+use Rattle.events.specs.Told.{Told, toldOf}
 use Rattle.events.proofs.event_in.Statement.{statement}
 use Rattle.events.proofs.event_in.Tie as tie
 

@@ -1,7 +1,7 @@
 -- `events::on_event` meets its contract.
 use borrow.Author.Needs.{needs}
 use Rattle.lockboard.specs.View.{factsIn}
-use Rattle.events.specs.PartsLaws.{on-written, on-unwritten}
+use Rattle.events.specs.ToldLaws.{on-written, on-unwritten}
 use Rattle.events.proofs.on_event.Statement.{statement}
 use Rattle.events.proofs.on_event.Tie as tie
 

@@ -1,7 +1,7 @@
 -- `events::on_line` meets its contract.
 use borrow.Author.Needs.{needs}
 use Rattle.lockboard.specs.View.{factsIn}
-use Rattle.events.specs.PartsLaws.{on-said}
+use Rattle.events.specs.ToldLaws.{on-said}
 use Rattle.events.proofs.on_line.Statement.{statement}
 use Rattle.events.proofs.on_line.Tie as tie
 

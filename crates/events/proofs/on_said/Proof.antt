@@ -1,7 +1,7 @@
 -- `events::on_said` meets its contract.
 use borrow.Author.Needs.{needs}
 use Rattle.lockboard.specs.View.{factsIn}
-use Rattle.events.specs.PartsLaws.{on-found, on-nothing}
+use Rattle.events.specs.ToldLaws.{on-found, on-nothing}
 use Rattle.events.proofs.on_said.Statement.{statement}
 use Rattle.events.proofs.on_said.Tie as tie
 

@@ -9,7 +9,7 @@ use Rattle.model.specs.Limits.{lf}
 use Rattle.listing.specs.Listing.{line}
 use Rattle.lockboard.specs.View.{factsIn}
 use Rattle.lockboard.specs.Events.{answerFields}
-use Rattle.events.specs.Parts.{endText}
+use Rattle.replies.specs.Parts.{endText}
 use Rattle.events.specs.LoopLaws.{repliesTo, line-fits, replies-last, replies-next, Put, put-none, put-room, put-more, last-room, put-last, wrote-long}
 use Rattle.events.proofs.put_answers.Statement.{statement}
 use Rattle.events.proofs.put_answers.Tie as tie
