@@ -15,7 +15,7 @@ use Rattle.tables.specs.declared.PlanRecord.{PlanRecord}
 use Rattle.tables.specs.Layout.{Tables, recordOf}
 use Rattle.tables.specs.Given.{Gives, planIn, isGiven, roomy}
 use Rattle.tables.specs.GivenLaws.{plan-given}
-use Rattle.filler.specs.Fill as fills
+use Rattle.tallies.specs.Tally as tallies
 use Rattle.reader.specs.declared.PlanAnswer.{PlanAnswer}
 use Rattle.reader.specs.declared.PlanAnswer.the-variants.{Accepted, Refused}
 use Rattle.reader.specs.Into.{answerInto, planAnswer, tablesAfter}
@@ -33,7 +33,7 @@ isAccepted (Refused x l) = false
 -- the record of an accepted plan; of a refused one a record without rows
 abbrev pub recordIn : PlanAnswer → PlanRecord
 recordIn (Accepted r) = r
-recordIn (Refused x l) = fills.recordIn fills.blank
+recordIn (Refused x l) = tallies.recordIn tallies.blank
 
 -- the refusal and the line of a refused plan
 abbrev pub refusalIn : PlanAnswer → Refusal

@@ -41,7 +41,7 @@ fn record_in(a: PlanAnswer) -> PlanRecord
 {
     match a {
         PlanAnswer::Accepted(r) => r,
-        PlanAnswer::Refused { number: _, line: _ } => filler::record_of(filler::blank()),
+        PlanAnswer::Refused { number: _, line: _ } => tallies::record_of(tallies::blank()),
     }
 }
 

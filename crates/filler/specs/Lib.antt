@@ -1,5 +1,5 @@
 pub mod Fill
 pub mod LoopLaws
-pub mod ItemLaws
+pub mod RowLaws
 pub mod SheetLaws
 pub mod PlanLaws

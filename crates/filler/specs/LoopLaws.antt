@@ -14,7 +14,9 @@ use Rattle.lines.specs.Said.{saidOf}
 use Rattle.scan.specs.declared.Line.{Line}
 use Rattle.scan.specs.Scan.{lineIn, lineAt}
 use Rattle.scan.specs.ScanLaws.{line-said, next-later, ended-pieces, last-piece}
-use Rattle.filler.specs.Fill.{Tally, tallyAfter, blank, putIf, wiped, filledBy}
+use Rattle.tallies.specs.declared.Tally.{Tally}
+use Rattle.tallies.specs.Tally.{tallyAfter, blank}
+use Rattle.filler.specs.Fill.{putIf, wiped, filledBy}
 
 -- zeros, one more and all
 pub wiped-more : (d₀ d e : List ℕ) (k i : ℕ) → d ≡ wiped d₀ k i → e ≡ putIf true d (k + i) 0 → e ≡ wiped d₀ k (i + 1)

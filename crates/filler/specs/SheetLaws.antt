@@ -23,8 +23,11 @@ use Rattle.model.specs.Text.{item, policyKind, runItem, lockItems, taskItems, s
 use Rattle.tables.specs.Layout.{zeros, lockCells, taskCells, taskWidth, over}
 use Rattle.tables.specs.LayoutLaws.{Few, task-wide}
 use Rattle.tables.specs.FlatLaws.{flat-append, flat-length, each-flat}
-use Rattle.filler.specs.Fill.{Tally, markOf, most, bumped, locksBy, tallyBy, blank, place, putIf, wiped, taskLinePut, runPlace, runPut, lockPut, taskPut}
-use Rattle.filler.specs.ItemLaws.{sayOf, filledItems, set-right, over-vcpus, over-mutexes, over-opens, fromSections, fromOpens, fromMutexes, fromVcpus}
+use Rattle.tallies.specs.declared.Tally.{Tally}
+use Rattle.tallies.specs.Tally.{markOf, most, bumped, locksBy, tallyBy, blank}
+use Rattle.tallies.specs.ItemLaws.{sayOf, over-vcpus, over-mutexes, over-opens, fromSections, fromOpens, fromMutexes, fromVcpus}
+use Rattle.filler.specs.Fill.{place, putIf, wiped, taskLinePut, runPlace, runPut, lockPut, taskPut}
+use Rattle.filler.specs.RowLaws.{filledItems, set-right}
 
 -- ZEROS
 

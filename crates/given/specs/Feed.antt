@@ -1,9 +1,8 @@
 -- The judge over items, one after the other, and the items of rows.
-use Prim.Native.Nat.{ℕ, zero, suc, _+_, _-_, _≤_}
+use Prim.Native.Nat.{ℕ, zero, suc, _+_, _≤_}
 use mathlib.Core.Path.{_≡_}
 use mathlib.Core.List.{List, [], _∷_, _++_}
-use mathlib.Core.Bool.{Bool, true, false, _&&_, _||_, not}
-use lib.Dec.{eqb}
+use mathlib.Core.Bool.{Bool, true, false, _&&_}
 use Rattle.laws.specs.Rows.{rows}
 use Rattle.model.specs.declared.Kind.{Kind}
 use Rattle.model.specs.declared.Kind.the-variants.{MutexG, MutexL, GuestLine, TaskLine, LockLine}
@@ -13,7 +12,8 @@ use Rattle.model.specs.Text.{item, vcpuItem, ownedItem, openItem, runItem}
 use Rattle.model.specs.Reading.{fault}
 use Rattle.coded.specs.Coded.{coded, start}
 use Rattle.tables.specs.Layout.{taskWidth, cell, vcpuRow, mutexRow, openRow, lockRow}
-use Rattle.tables.specs.Given.{guestFor, isClear}
+use Rattle.tables.specs.Given.{isClear}
+use Rattle.tidies.specs.Hosts.{hostOf, begins}
 pub use Rattle.given.specs.declared.Run.{Run}
 
 -- THE JUDGE AT WORK
@@ -64,14 +64,6 @@ openLines t i = openItem (openRow t i) ∷ []
 -- lock j of task i, and the run after it
 unfoldable pub lockLines : List ℕ → ℕ → ℕ → List Item
 lockLines t i j = item LockLine (lockRow t i j .m ∷ lockRow t i j .ticks ∷ []) ∷ runItem (lockRow t i j .after) ∷ []
-
--- the guest of task i
-unfoldable pub hostOf : List Vcpu → List ℕ → ℕ → ℕ
-hostOf vs t i = guestFor vs (cell t taskWidth i 0)
-
--- task i is the first, or its guest is another than that of the task before it
-unfoldable pub begins : List Vcpu → List ℕ → ℕ → Bool
-begins vs t i = eqb i 0 || not (eqb (hostOf vs t i) (hostOf vs t (i - 1)))
 
 -- a guest's line before the rest, or none
 abbrev pub guestLine : Bool → ℕ → List Item → List Item

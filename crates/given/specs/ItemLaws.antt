@@ -15,7 +15,8 @@ use Rattle.model.specs.Text.{item, policyKind, vcpuItem, ownedItem, openItem, r
 use Rattle.tables.specs.declared.PlanRecord.{PlanRecord}
 use Rattle.tables.specs.Layout.{Tables, taskWidth, cell, vcpuRow, mutexRow, openRow, lockRow, taskRow}
 use Rattle.tables.specs.Given.{guestFor, atop, sectionsOf, planIn}
-use Rattle.given.specs.Feed.{lined, vcpuLines, mutexLines, openLines, lockLines, hostOf, begins, guestLine, headLines, taskLines}
+use Rattle.tidies.specs.Hosts.{hostOf, begins}
+use Rattle.given.specs.Feed.{lined, vcpuLines, mutexLines, openLines, lockLines, guestLine, headLines, taskLines}
 use Rattle.given.specs.FeedLaws.{items-rows}
 use Rattle.given.specs.Tests.{rowItems}
 

@@ -2,6 +2,5 @@ pub mod Feed
 pub mod Tests
 pub mod FeedLaws
 pub mod RowLaws
-pub mod GuestLaws
 pub mod TestLaws
 pub mod ItemLaws

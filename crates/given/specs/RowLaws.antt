@@ -1,9 +1,8 @@
 -- What the judge is fed of a row, from its cells.
-use Prim.Native.Nat.{ℕ, zero, suc, _+_, _*_, _-_}
+use Prim.Native.Nat.{ℕ, zero, suc, _+_, _*_}
 use mathlib.Core.Path.{_≡_, refl, ap, _∙_}
 use mathlib.Core.List.{List, []}
-use mathlib.Core.Bool.{Bool, true, false, _||_, not}
-use lib.Dec.{eqb}
+use mathlib.Core.Bool.{Bool, true, false}
 use Rattle.model.specs.declared.Kind.{Kind}
 use Rattle.model.specs.declared.Kind.the-variants.{PlanLine, MutexL, GuestLine, TaskLine, RunLine, LockLine}
 use Rattle.model.specs.Line.{Item, shape, size, numsOf}
@@ -17,7 +16,8 @@ use Rattle.model.specs.Text as text
 use Rattle.coded.specs.Coded.{item}
 use Rattle.tables.specs.declared.PlanRecord.{PlanRecord}
 use Rattle.tables.specs.Layout.{mutexWidth, taskWidth, lockWidth, firstLock, cell, ownerOf, mutexRow, lockRow}
-use Rattle.given.specs.Feed.{Run, fresh, feed, feeds, ownerKind, mutexLines, lockLines, hostOf, begins, guestLine, headLines, taskLines, lined}
+use Rattle.tidies.specs.Hosts.{hostOf, begins}
+use Rattle.given.specs.Feed.{Run, fresh, feed, feeds, ownerKind, mutexLines, lockLines, guestLine, headLines, taskLines, lined}
 use Rattle.given.specs.Tests.{frontItems}
 
 -- an owner that is not 0
@@ -93,9 +93,3 @@ unfolding feeds numsOf size shape
 front-fed r {b = b} e f g h =
     h ∙ ap (λ x. feed b (item x 0 0 0 0 0)) e ∙ ap (feed b) (policy-item (r .policy) (r .overrun))
     ∙ ap (λ x. feed x (text.item (policyKind (r .policy) (r .overrun)) [])) (g ∙ ap (λ x. feed x (text.item PlanLine [])) f)
-
--- whether a task begins a section, from the guests of its VCPU and of the one before
-pub begins-told :
-    (vs : List Vcpu) (t : List ℕ) (i : ℕ) {p x y : ℕ} → p ≡ i - 1 → y ≡ hostOf vs t p → x ≡ hostOf vs t i → (eqb i 0 || not (eqb x y)) ≡ begins vs t i
-unfolding begins
-begins-told vs t i e f g = rw (g, f, e)

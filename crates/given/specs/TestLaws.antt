@@ -1,17 +1,10 @@
 -- Laws of the tests: each says what the test for 9 says.
-use Prim.Native.Nat.{ℕ, _+_, _*_, _/_, _≤_, _<_}
-use mathlib.Core.Path.{_≡_, refl, ap, ap₂, sym, _∙_}
+use mathlib.Core.Path.{_≡_, ap, ap₂, sym, _∙_}
 use mathlib.Core.Bool.{Bool, true, false, _&&_}
 use mathlib.Core.Logic.{_↔_}
 use mathlib.Core.List.{List, [], _∷_, _++_}
-use native.Mathlib.Nat.{le-div-iff-mul-le}
-use lib.Dec.{leb}
-use borrow.Author.Tests.{leb-true, le-leb, lt-leb}
-use Rattle.laws.specs.BoolLaws.{both-right, miss-left}
-use Rattle.laws.specs.SumLaws.{each-all}
+use Rattle.laws.specs.BoolLaws.{both-right}
 use Rattle.laws.specs.Rows.{rows}
-use Rattle.laws.specs.RowLaws.{all-found, each-rows}
-use Rattle.model.specs.Limits.{maxV, maxM, maxTasks, maxLocks}
 use Rattle.model.specs.Text.{itemsOf}
 use Rattle.model.specs.Rules as known
 use Rattle.model.specs.Reading.{Passes, rules}
@@ -22,20 +15,15 @@ use Rattle.model.specs.Text as text
 use Rattle.coded.specs.Coded.{coded, start, item}
 use Rattle.coded.specs.Agrees.{same-passes}
 use Rattle.tables.specs.declared.PlanRecord.{PlanRecord}
-use Rattle.tables.specs.Layout.{Tables, taskWidth, lockWidth, firstLock, cell, vcpuRow}
-use Rattle.tables.specs.Given.{planIn, roomy, zeroFrom, zeroRest, clean, isGiven}
+use Rattle.tables.specs.Layout.{Tables, vcpuRow}
+use Rattle.tables.specs.Given.{planIn, roomy, clean, isGiven}
 use Rattle.tables.specs.GivenLaws.{Tested, clean-passes, roomy-exactly, tested-exactly, both-exactly, row-few}
 use Rattle.tables.specs.Sound.{given-sound}
+use Rattle.tidies.specs.TestLaws.{same-test, few-exactly, tidy-exactly, tidy-at, tidy-all}
 use Rattle.given.specs.Feed.{Run, fresh, feed, feeds, passing, lined, vcpuLines, mutexLines, openLines, taskLines}
 use Rattle.given.specs.FeedLaws.{fed-clean, feeds-append}
-use Rattle.given.specs.Tests.{mostRows, few, Few, tidy, allTidy, frontItems, rowItems, cleanRows, soundRows}
+use Rattle.given.specs.Tests.{few, Few, allTidy, frontItems, rowItems, cleanRows, soundRows}
 use Rattle.given.specs.ItemLaws.{row-items}
-
--- two tests that hold together
-pub same-test : (a b : Bool) → (a ≡ true → b ≡ true) → (b ≡ true → a ≡ true) → a ≡ b
-same-test true b f g = sym (f refl)
-same-test false true f g = g refl
-same-test false false f g = refl
 
 -- the second of two tests is made where the first holds
 pub both-taken : {a b x y : Bool} → x ≡ a → x ≡ true → y ≡ b → y ≡ (a && b)
@@ -43,49 +31,6 @@ both-taken e h f = rw (sym e ∙ h) f
 
 pub both-missed : {a x : Bool} (b : Bool) → x ≡ a → x ≡ false → false ≡ (a && b)
 both-missed b e h = rw (sym e ∙ h)
-
--- room, with no product that could wrap
-pub room-same : (n w l : ℕ) → 0 < w → leb n (l / w) ≡ leb (n * w) l
-room-same n w l h =
-    same-test (leb n (l / w)) (leb (n * w) l) (λ e. le-leb (n * w) l (le-div-iff-mul-le h .0 (leb-true n (l / w) e)))
-    (λ e. le-leb n (l / w) (le-div-iff-mul-le h .1 (leb-true (n * w) l e)))
-
--- a task by its count of locks: few, or more
-module _ (t : List ℕ) (i : ℕ) {k : ℕ} (e : k ≡ cell t taskWidth i 4) where
-  pub tidy-few : {b : Bool} → k ≤ maxLocks → b ≡ zeroFrom t i (firstLock + k * lockWidth) → b ≡ tidy t i
-  unfolding tidy zeroRest
-  tidy-few l h = let f : leb (cell t taskWidth i 4) maxLocks ≡ true = rw e at (le-leb k maxLocks l) in rw (f, ← e) h
-
-  pub tidy-many : maxLocks < k → false ≡ tidy t i
-  unfolding tidy
-  tidy-many l = sym (miss-left (leb (cell t taskWidth i 4) maxLocks) (zeroRest t i) (rw e at (lt-leb k maxLocks l)))
-
--- THE COUNTS
-leb-exactly : (a b : ℕ) → (leb a b ≡ true) ↔ (a ≤ b)
-leb-exactly a b = (leb-true a b, le-leb a b)
-
-pub few-exactly : (r : PlanRecord) → (few r ≡ true) ↔ Few r
-unfolding few
-few-exactly r =
-    let e =
-    both-exactly (leb-exactly (r .vcpus) maxV)
-    (both-exactly (leb-exactly (r .mutexes) maxM) (both-exactly (leb-exactly (r .opens) mostRows) (leb-exactly (r .tasks) maxTasks))) in (
-      λ h. let f = e .0 h in record { vcpus = f .0; mutexes = f .1 .0; opens = f .1 .1 .0; tasks = f .1 .1 .1 },
-      λ h. e .1 (h .vcpus, (h .mutexes, (h .opens, h .tasks))),
-    )
-
--- each task, and all
-pub tidy-exactly : (t : List ℕ) (i : ℕ) → (tidy t i ≡ true) ↔ ((cell t taskWidth i 4 ≤ maxLocks) × (zeroRest t i ≡ true))
-unfolding tidy
-tidy-exactly t i = both-exactly (leb-exactly (cell t taskWidth i 4) maxLocks) (λ h. h, λ h. h)
-
-pub tidy-at : (t : List ℕ) (n i : ℕ) → allTidy t n ≡ true → i < n → tidy t i ≡ true
-unfolding allTidy
-tidy-at t n i h l = all-found (tidy t) (λ k. k) n i l h
-
-pub tidy-all : (t : List ℕ) (n : ℕ) → ((i : ℕ) → i < n → tidy t i ≡ true) → allTidy t n ≡ true
-unfolding allTidy
-tidy-all t n h = each-all (tidy t) (rows n (λ k. k)) (each-rows (λ i. tidy t i ≡ true) n (λ k. k) h)
 
 -- the rows are clean exactly when the items of the plan in the tables pass the rules
 pub clean-exactly : (r : PlanRecord) (t : Tables) → (cleanRows r t ≡ true) ↔ Passes rules known.start (itemsOf (planIn r t))

@@ -1,45 +1,16 @@
 -- The test for 9 as code makes it, test by test.
-use Prim.Native.Nat.{ℕ, _*_, _≤_}
 use mathlib.Core.List.{List, [], _∷_, _++_}
 use mathlib.Core.Bool.{Bool, _&&_}
-use lib.Dec.{leb}
-use Rattle.laws.specs.Sums.{all}
 use Rattle.laws.specs.Rows.{rows}
 use Rattle.model.specs.declared.Kind.the-variants.{PlanLine, EndLine}
-use Rattle.model.specs.Limits.{maxV, maxM, maxGuest, maxTasks, maxLocks}
 use Rattle.model.specs.Line.{Item}
 use Rattle.model.specs.Text.{item, policyKind}
 use Rattle.coded.specs.Coded.{coded, start}
-use Rattle.tables.specs.Layout.{Tables, taskWidth, cell, vcpuRow}
+use Rattle.tables.specs.Layout.{Tables, vcpuRow}
 use Rattle.tables.specs.declared.PlanRecord.{PlanRecord}
-use Rattle.tables.specs.Given.{zeroRest, clean}
+use Rattle.tables.specs.Given.{clean}
+pub use Rattle.tidies.specs.Tests.{lent, mostRows, few, Few, allTidy}
 use Rattle.given.specs.Feed.{lined, vcpuLines, mutexLines, openLines, taskLines}
-
--- the lent tables
-abbrev pub lent : List ℕ → List ℕ → List ℕ → List ℕ → Tables
-lent vt mt ot ts = record { vcpus = vt; mutexes = mt; opens = ot; tasks = ts }
-
--- no table of a plan has more rows: openings, a pair of mutex and guest each
-abbrev pub mostRows : ℕ
-mostRows = maxM * maxGuest
-
--- no more rows than a plan can have
-unfoldable pub few : PlanRecord → Bool
-few r = leb (r .vcpus) maxV && (leb (r .mutexes) maxM && (leb (r .opens) mostRows && leb (r .tasks) maxTasks))
-
--- the same as a fact
-pub record Few (r : PlanRecord) : Type 0 where
-  pub vcpus : r .vcpus ≤ maxV
-  pub mutexes : r .mutexes ≤ maxM
-  pub opens : r .opens ≤ mostRows
-  pub tasks : r .tasks ≤ maxTasks
-
--- task i has at most 8 locks, and zeros in the places of those that it does not have
-unfoldable pub tidy : List ℕ → ℕ → Bool
-tidy t i = leb (cell t taskWidth i 4) maxLocks && zeroRest t i
-
-unfoldable pub allTidy : List ℕ → ℕ → Bool
-allTidy t n = all (tidy t) (rows n (λ i. i))
 
 -- the first two lines
 abbrev pub frontItems : PlanRecord → List Item → List Item

@@ -9,13 +9,22 @@ use model::Kind;
 use model::OverrunChoice;
 use model::Policy;
 use tables::PlanRecord;
-use tables::at;
+use tidies::FIRST_LOCK;
+use tidies::LOCK_WIDTH;
+use tidies::MUTEX_WIDTH;
+use tidies::OPEN_WIDTH;
+use tidies::TASK_WIDTH;
+use tidies::VCPU_WIDTH;
+use tidies::all_tidy;
+use tidies::begins;
+use tidies::cell;
+use tidies::few;
+use tidies::host_of;
+use tidies::roomy;
 ghost use mathlib.Core.Path.{_≡_};
 ghost use mathlib.Core.Bool.{true};
 ghost use mathlib.Core.List.{[]};
-ghost use Prim.Native.Nat.{_*_, _-_, _≤_, _<_};
-ghost use lib.Dec.{leb};
-ghost use lib.ListN.{length};
+ghost use Prim.Native.Nat.{_≤_, _<_};
 ghost use Rattle.laws.specs.Rows.{rows};
 ghost use Rattle.model.specs.Limits.{maxLocks};
 ghost use Rattle.model.specs.Text.{policyKind};
@@ -24,31 +33,6 @@ ghost use Rattle.tables.specs.Layout as layout;
 ghost use Rattle.tables.specs.Given as tables;
 ghost use Rattle.given.specs.Feed as feed;
 ghost use Rattle.given.specs.Tests as tests;
-
-// The numbers in a row of each table (specs/Layout of the tables).
-const VCPU_WIDTH: usize = 5;
-
-const MUTEX_WIDTH: usize = 2;
-
-const OPEN_WIDTH: usize = 2;
-
-const LOCK_WIDTH: usize = 3;
-
-const TASK_WIDTH: usize = 29;
-
-// Where the locks of a task begin.
-const FIRST_LOCK: usize = 5;
-
-// No plan has more rows of each table, and no task more locks (specs/Limits of the model).
-const MAX_VCPUS: usize = 16;
-
-const MAX_MUTEXES: usize = 32;
-
-const MAX_OPENS: usize = 128;
-
-const MAX_TASKS: usize = 64;
-
-const MAX_LOCKS: u64 = 8;
 
 // The judge at work: is no item so far at fault, and what is seen.
 struct Run {
@@ -93,14 +77,6 @@ fn passing(run: Run) -> bool
 {
     let seen = run.seen;
     run.ok & ready(seen)
-}
-
-// Place j of row i, in rows of w numbers.
-fn cell(t: &[u64], w: usize, i: usize, j: usize) -> u64
-    requires { ⌜ (i ≤ tests.mostRows) × (w ≤ layout.taskWidth) × (j ≤ layout.taskWidth) ⌝ }
-    ensures { λ r. ⌜ r ≡ layout.cell (now (t .entry)) w i j ⌝ }
-{
-    at(t, i * w + j)
 }
 
 // After row i of the VCPUs.
@@ -216,46 +192,6 @@ fn fed_locks(run: Run, t: &[u64], i: usize, n: usize) -> Run
     s
 }
 
-// The guest of VCPU v: that of the first of n rows that has it, 0 where none has.
-fn guest_in(t: &[u64], n: usize, v: u64) -> u64
-    requires { ⌜ n ≤ tests.mostRows ⌝ }
-    ensures { λ r. ⌜ r ≡ tables.guestFor (rows n (layout.vcpuRow (now (t .entry)))) v ⌝ }
-{
-    let mut i = 0;
-    while i < n {
-        let guest = cell(t, VCPU_WIDTH, i, 1);
-        if cell(t, VCPU_WIDTH, i, 0) == v {
-            return guest;
-        }
-        i += 1;
-    }
-    0
-}
-
-// The number before i, 0 before 0.
-fn prior(i: usize) -> usize
-    ensures { λ r. ⌜ r ≡ i - 1 ⌝ }
-{
-    if i == 0 { 0 } else { i - 1 }
-}
-
-// The guest of task i.
-fn host_of(vt: &[u64], n: usize, t: &[u64], i: usize) -> u64
-    requires { ⌜ (n ≤ tests.mostRows) × (i ≤ tests.mostRows) ⌝ }
-    ensures { λ r. ⌜ r ≡ feed.hostOf (rows n (layout.vcpuRow (now (vt .entry)))) (now (t .entry)) i ⌝ }
-{
-    guest_in(vt, n, cell(t, TASK_WIDTH, i, 0))
-}
-
-// Is task i the first, or its guest another than that of the task before it?
-fn begins(vt: &[u64], n: usize, t: &[u64], i: usize) -> bool
-    requires { ⌜ (n ≤ tests.mostRows) × (i ≤ tests.mostRows) ⌝ }
-    ensures { λ r. ⌜ r ≡ feed.begins (rows n (layout.vcpuRow (now (vt .entry)))) (now (t .entry)) i ⌝ }
-{
-    let last = host_of(vt, n, t, prior(i));
-    (i == 0) | !(host_of(vt, n, t, i) == last)
-}
-
 // After a guest's line, if there is one.
 fn fed_guest(run: Run, on: bool, guest: u64) -> Run
     ensures { λ r. ⌜ r ≡ feed.feeds run (feed.guestLine on guest []) ⌝ }
@@ -291,79 +227,6 @@ fn fed_task(run: Run, vt: &[u64], n: usize, t: &[u64], i: usize) -> Run
     let led = fed_guest(run, on, guest);
     let head = fed_head(led, t, i);
     fed_locks(head, t, i, count)
-}
-
-// Are the places of task i from c on zero?
-fn zero_from(t: &[u64], i: usize, c: usize) -> bool
-    requires { ⌜ (i ≤ tests.mostRows) × (c ≤ layout.taskWidth) ⌝ }
-    ensures { λ r. ⌜ r ≡ tables.zeroFrom (now (t .entry)) i c ⌝ }
-{
-    let n = TASK_WIDTH - c;
-    let mut j = 0;
-    while j < n {
-        let zero = cell(t, TASK_WIDTH, i, c + j) == 0;
-        if !zero {
-            return false;
-        }
-        j += 1;
-    }
-    true
-}
-
-// Has task i few locks, and zeros in the places of those that it does not have?
-fn tidy(t: &[u64], i: usize) -> bool
-    requires { ⌜ i ≤ tests.mostRows ⌝ }
-    ensures { λ r. ⌜ r ≡ tests.tidy (now (t .entry)) i ⌝ }
-{
-    let count = cell(t, TASK_WIDTH, i, 4);
-    if count <= MAX_LOCKS {
-        zero_from(t, i, FIRST_LOCK + count as usize * LOCK_WIDTH)
-    } else {
-        false
-    }
-}
-
-// The same of each of n tasks.
-fn all_tidy(t: &[u64], n: usize) -> bool
-    requires { ⌜ n ≤ tests.mostRows ⌝ }
-    ensures { λ r. ⌜ r ≡ tests.allTidy (now (t .entry)) n ⌝ }
-{
-    let mut i = 0;
-    while i < n {
-        let one = tidy(t, i);
-        if !one {
-            return false;
-        }
-        i += 1;
-    }
-    true
-}
-
-// Are n rows of w numbers within a slice?
-fn has_room(n: usize, w: usize, t: &[u64]) -> bool
-    requires { ⌜ 0 < w ⌝ }
-    ensures { λ r. ⌜ r ≡ leb (n * w) (length (now (t .entry))) ⌝ }
-{
-    n <= t.len() / w
-}
-
-// Are the counts within the slices?
-fn roomy(r: PlanRecord, vt: &[u64], mt: &[u64], ot: &[u64], ts: &[u64]) -> bool
-    ensures { λ b. ⌜ b ≡ tables.roomy r (tests.lent (now (vt .entry)) (now (mt .entry)) (now (ot .entry)) (now (ts .entry))) ⌝ }
-{
-    let vcpus = has_room(r.vcpus, VCPU_WIDTH, vt);
-    let mutexes = has_room(r.mutexes, MUTEX_WIDTH, mt);
-    let opens = has_room(r.opens, OPEN_WIDTH, ot);
-    let tasks = has_room(r.tasks, TASK_WIDTH, ts);
-    vcpus & (mutexes & (opens & tasks))
-}
-
-// Are there no more rows than a plan can have?
-fn few(r: PlanRecord) -> bool
-    ensures { λ b. ⌜ b ≡ tests.few r ⌝ }
-{
-    (r.vcpus <= MAX_VCPUS)
-        & ((r.mutexes <= MAX_MUTEXES) & ((r.opens <= MAX_OPENS) & (r.tasks <= MAX_TASKS)))
 }
 
 // The kind of the policy's line.

@@ -14,8 +14,9 @@ use Rattle.tables.specs.Layout.{Tables, vcpuWidth, mutexWidth, openWidth, taskW
 use Rattle.lines.specs.declared.Said.{Said}
 use Rattle.coded.specs.declared.Seen.{Seen}
 use Rattle.coded.specs.Coded.{coded}
-use Rattle.filler.specs.declared.Tally.{Tally}
-use Rattle.filler.specs.Fill.{recordIn, tallied, blank, filledBy}
+use Rattle.tallies.specs.declared.Tally.{Tally}
+use Rattle.tallies.specs.Tally.{recordIn, tallied, blank}
+use Rattle.filler.specs.Fill.{filledBy}
 use Rattle.reader.specs.Into.{PlanAnswer, Accepted, Refused}
 
 -- THE VERDICT ON LINES, with the record of what they tally

@@ -37,9 +37,11 @@ use Rattle.coded.specs.declared.Seen.{Seen}
 use Rattle.coded.specs.Coded.{coded, start}
 use Rattle.coded.specs.Coded as code
 use Rattle.coded.specs.Agrees.{same-reading}
-use Rattle.filler.specs.declared.Tally.{Tally}
-use Rattle.filler.specs.Fill.{recordIn, tallied, tallyAfter, blank, filledBy, vcpuPut, mutexPut, openPut, taskPut}
-use Rattle.filler.specs.PlanLaws.{tablesBy, text-record, text-tables}
+use Rattle.tallies.specs.declared.Tally.{Tally}
+use Rattle.tallies.specs.Tally.{recordIn, tallied, tallyAfter, blank}
+use Rattle.tallies.specs.TallyLaws.{text-record}
+use Rattle.filler.specs.Fill.{filledBy, vcpuPut, mutexPut, openPut, taskPut}
+use Rattle.filler.specs.PlanLaws.{tablesBy, text-tables}
 use Rattle.reader.specs.Into.{PlanAnswer, Accepted, Refused, answerInto, tablesInto, planAnswer, tablesAfter}
 use Rattle.reader.specs.Judged.{answerBy, judgedFrom, refusedBy, finishBy, roomyBy, roomOr, withRoom, isAccepted, filledIf}
 

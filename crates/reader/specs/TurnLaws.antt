@@ -18,8 +18,8 @@ use Rattle.scan.specs.Scan.{lineIn, lineAt}
 use Rattle.scan.specs.ScanLaws.{line-said, next-is, next-later}
 use Rattle.coded.specs.declared.Seen.{Seen}
 use Rattle.coded.specs.Coded.{coded, start}
-use Rattle.filler.specs.declared.Tally.{Tally}
-use Rattle.filler.specs.Fill.{tallyAfter, blank}
+use Rattle.tallies.specs.declared.Tally.{Tally}
+use Rattle.tallies.specs.Tally.{tallyAfter, blank}
 use Rattle.reader.specs.Into.{PlanAnswer, Refused}
 use Rattle.reader.specs.Judged.{judgedFrom, refusedBy, finishBy}
 use Rattle.reader.specs.JudgedLaws.{judged-last, judged-bad, judged-next, line-some}

@@ -9,7 +9,7 @@ use Rattle.lines.specs.declared.Said.{Said}
 use Rattle.lines.specs.Said.{saidItem}
 use Rattle.scan.specs.declared.Line.{Line}
 use Rattle.coded.specs.Coded.{coded, start}
-use Rattle.filler.specs.Fill.{tallyAfter, blank}
+use Rattle.tallies.specs.Tally.{tallyAfter, blank}
 use Rattle.reader.specs.Into.{PlanAnswer, Refused}
 use Rattle.reader.specs.Judged.{refusedBy, finishBy}
 pub use Rattle.reader.specs.declared.Turn.{Turn}

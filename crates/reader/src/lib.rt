@@ -1,12 +1,12 @@
 // The reader: any bytes into lent tables, or a refusal that changes nothing. What it answers stands in specs/Into.
 use coded::Seen;
-use filler::Tally;
 use lines::Said;
 use model::Fault;
 use model::Found;
 use model::Refusal;
 use scan::Line;
 use tables::PlanRecord;
+use tallies::Tally;
 ghost use mathlib.Core.Path.{_≡_};
 ghost use mathlib.Core.Bool.{true, false};
 ghost use Prim.Native.Nat.{_+_};
@@ -16,6 +16,7 @@ ghost use Rattle.model.specs.Reading.{faultOf, nextOf};
 ghost use Rattle.tables.specs.Given.{isClear};
 ghost use Rattle.lines.specs.Said.{saidItem};
 ghost use Rattle.coded.specs.Coded as coded;
+ghost use Rattle.tallies.specs.Tally as tallies;
 ghost use Rattle.filler.specs.Fill as fills;
 ghost use Rattle.reader.specs.Into.{planAnswer, tablesAfter};
 ghost use Rattle.reader.specs.Judged as judged;
@@ -77,7 +78,7 @@ fn finish(ok: bool, t: Tally, n: usize) -> PlanAnswer
     ensures { λ r. ⌜ r ≡ judged.finishBy ok t n ⌝ }
 {
     if ok {
-        PlanAnswer::Accepted(filler::record_of(t))
+        PlanAnswer::Accepted(tallies::record_of(t))
     } else {
         PlanAnswer::Refused {
             number: Refusal::Shape,
@@ -100,7 +101,7 @@ fn first() -> Turn
 {
     Turn {
         seen: judge::start(),
-        tally: filler::blank(),
+        tally: tallies::blank(),
         done: false,
         answer: PlanAnswer::Refused {
             number: Refusal::Shape,
@@ -137,7 +138,7 @@ fn turned(t: Turn, l: Line, n: usize) -> Turn
     }
     let a = t.answer;
     let u = seen_in(seen, said);
-    let v = filler::tally_after(tally, said);
+    let v = tallies::tally_after(tally, said);
     Turn {
         seen: u,
         tally: v,
@@ -156,7 +157,7 @@ fn answer_of(t: Turn) -> PlanAnswer
 
 // The answer to bytes offered as a plan, for tables with room.
 fn judge_lines(src: &[u8]) -> PlanAnswer
-    ensures { λ r. ⌜ r ≡ judged.judgedFrom coded.start fills.blank 1 (pieces lf (now (src .entry))) ⌝ }
+    ensures { λ r. ⌜ r ≡ judged.judgedFrom coded.start tallies.blank 1 (pieces lf (now (src .entry))) ⌝ }
 {
     let mut r = scan::new(src);
     let mut t = first();

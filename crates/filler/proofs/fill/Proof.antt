@@ -7,7 +7,8 @@ use borrow.Author.Tests.{not-true, not-false}
 use borrow.Author.Needs.{needs}
 use Rattle.laws.specs.Bytes.{pieces}
 use Rattle.model.specs.Limits.{lf}
-use Rattle.filler.specs.Fill.{blank, vcpuPut, mutexPut, openPut, taskPut, filledBy}
+use Rattle.tallies.specs.Tally.{blank}
+use Rattle.filler.specs.Fill.{vcpuPut, mutexPut, openPut, taskPut, filledBy}
 use Rattle.filler.specs.LoopLaws.{next-fits, filled-next, filled-last}
 use Rattle.filler.proofs.fill.Statement.{statement}
 use Rattle.filler.proofs.fill.Tie as tie

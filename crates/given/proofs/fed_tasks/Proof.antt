@@ -2,9 +2,9 @@ use Prim.Native.Nat.{_-_}
 use borrow.Author.Needs.{needs}
 use Rattle.laws.specs.Rows.{rows}
 use Rattle.tables.specs.Layout.{vcpuRow}
+use Rattle.tidies.specs.TestLaws.{tidy-exactly, tidy-at}
 use Rattle.given.specs.Feed.{Fed, taskLines}
 use Rattle.given.specs.FeedLaws.{fed-none, fed-more, fed-all}
-use Rattle.given.specs.TestLaws.{tidy-exactly, tidy-at}
 use Rattle.given.proofs.fed_tasks.Statement.{statement}
 use Rattle.given.proofs.fed_tasks.Tie as tie
 

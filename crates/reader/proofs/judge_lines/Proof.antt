@@ -67,7 +67,7 @@ use Rattle.scan.proofs.moved as moved
 use Rattle.scan.proofs.moved.Symbol as moved-def
 use Rattle.scan.proofs.moved.Met as moved-thm
 use Rattle.coded.specs.Coded.{start}
-use Rattle.filler.specs.Fill.{blank}
+use Rattle.tallies.specs.Tally.{blank}
 use Rattle.reader.specs.Into.{PlanAnswer}
 use Rattle.reader.specs.Judged.{judgedFrom}
 use Rattle.reader.specs.Turns as turns

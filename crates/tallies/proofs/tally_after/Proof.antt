@@ -1,0 +1,10 @@
+-- `tallies::tally_after` meets its contract.
+use borrow.Author.Needs.{needs}
+use Rattle.tallies.proofs.tally_after.Statement.{statement}
+use Rattle.tallies.proofs.tally_after.Tie as tie
+
+returns : tie.Need-returns
+returns c = cc
+
+pub tally-after-spec : {M : Type 1} → statement M
+tally-after-spec = tie.close (tie.spec (λ c κs. search needs) (λ c κs. search needs) returns)

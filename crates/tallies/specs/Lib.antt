@@ -1,0 +1,3 @@
+pub mod Tally
+pub mod ItemLaws
+pub mod TallyLaws

@@ -1,0 +1,4 @@
+pub mod Tests
+pub mod Hosts
+pub mod TestLaws
+pub mod GuestLaws
