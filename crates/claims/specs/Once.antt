@@ -1,10 +1,11 @@
 -- "That any two results allowed by one statement coincide is proved": for each public function, two results of a call, with all that two calls leave of what was lent, that its contract allows are the same.
--- Each contract is an equation with a definition, so that one law serves all: `once`.
+-- Each contract is one or more equations with a definition or an argument, so that one law serves all: `once`.
 use Prim.Native.Nat.{ℕ}
 use mathlib.Core.Path.{_≡_}
 use mathlib.Core.Bool.{Bool}
 use mathlib.Core.List.{List}
 use lib.IntN.{ℤ}
+use denote.Ref.{RefT}
 use Rattle.laws.specs.Once.{once}
 use Rattle.tables.specs.declared.PlanRecord.{PlanRecord}
 use Rattle.tables.specs.Layout.{Tables}
@@ -12,6 +13,7 @@ use Rattle.tables.specs.Given.{isGiven}
 use Rattle.reader.specs.declared.PlanAnswer.{PlanAnswer}
 use Rattle.reader.specs.Into.{planAnswer, tablesAfter}
 use Rattle.scan.specs.declared.Line.{Line}
+use Rattle.scan.specs.declared.LineReader.{LineReader}
 use Rattle.scan.specs.Scan.{lineAt}
 use Rattle.entries.specs.declared.RowAnswer.{RowAnswer}
 use Rattle.entries.specs.declared.TaskRowAnswer.{TaskRowAnswer}
@@ -68,9 +70,15 @@ pub read-sheet-once : (s vt mt ot : List ℕ) (ks : List Task) {a b : PlanAnswer
     ReadsSheet s vt mt ot ks a v m o k → ReadsSheet s vt mt ot ks b v′ m′ o′ k′ → (a ≡ b) × (v ≡ v′) × (m ≡ m′) × (o ≡ o′) × (k ≡ k′)
 read-sheet-once s vt mt ot ks p q = (once (p .0) (q .0), once (p .1) (q .1), once (p .2) (q .2), once (p .3) (q .3), once (p .4) (q .4))
 
--- the line reader (scan): `line_at`, `next_line`; `new` and `line_number` are equations with their arguments
+-- the line reader (scan): `line_at` and `next_line`, `new`, `line_number`
 pub line-at-once : (s : List ℕ) (at : ℕ) {a b : Line} → a ≡ lineAt s at → b ≡ lineAt s at → a ≡ b
 line-at-once s at = once
+
+pub new-once : (s : RefT (List ℕ)) {a b : LineReader} → (a .src ≡ s) × (a .at ≡ 0) × (a .line ≡ 1) → (b .src ≡ s) × (b .at ≡ 0) × (b .line ≡ 1) → a ≡ b
+new-once s p q = λ i. record { src = once (p .0) (q .0) i; at = once (p .1) (q .1) i; line = once (p .2) (q .2) i }
+
+pub line-number-once : (r : LineReader) {a b : ℕ} → a ≡ r .line → b ≡ r .line → a ≡ b
+line-number-once r = once
 
 -- QUESTIONS ABOUT LENT TABLES (given, entries, sheets)
 module _ (r : PlanRecord) (t : Tables) where

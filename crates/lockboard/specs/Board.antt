@@ -24,7 +24,7 @@ pub use Rattle.lockboard.specs.declared.BoardAnswer.{BoardAnswer}
 pub use Rattle.lockboard.specs.declared.BoardAnswer.the-variants.{Granted, Waits, Freed, Left, Shows, Refused}
 pub use Rattle.lockboard.specs.declared.Outcome.{Outcome}
 
--- WHAT THE BOARD HOLDS, by the names v, n and m: the only place that knows the layout
+-- WHAT THE BOARD HOLDS, by the names v, n and m: in this file the only lines that know the layout
 
 -- the seat of task (v, n), 1 to 128
 abbrev pub seat : ℕ → ℕ → ℕ

@@ -1,4 +1,4 @@
--- An answer's text by a number, a word and at most two numbers.
+-- An answer taken apart: how many numbers its line has, which of the lines with as many it is, and the numbers; and its text from these.
 use Prim.Native.Nat.{ℕ}
 use mathlib.Core.List.{List, [], _∷_}
 use lib.Dec.{eqb}

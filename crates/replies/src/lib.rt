@@ -55,7 +55,7 @@ fn refused_parts(r: Refusal) -> Parts
     }
 }
 
-// and of any event.
+// and of any answer.
 fn parts_of(a: BoardAnswer) -> Parts
     ensures { λ r. ⌜ r ≡ partsOf a ⌝ }
 {

@@ -38,7 +38,7 @@ answersOn F b es = answersText (lineAnswers F b (pieces lf es))
 unfoldable pub answersFor : Facts → List ℕ → List ℕ
 answersFor F es = answersOn F (fresh F) es
 
--- no answer is longer than ten times its event's line
+-- the answers are together at most ten times as long as the events
 pub plan-bound : (p : Plan) (es : List ℕ) → Valid p → length (answersFor (factsOf (system p)) es) ≤ 10 * length es
 unfolding answersFor
 plan-bound p es h = answers-bound (factsOf (system p)) (fresh (factsOf (system p))) es (fair p h) (small p h) (fresh-good (fair p h))

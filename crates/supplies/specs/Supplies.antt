@@ -41,7 +41,7 @@ nextMark p t ls ss hs v = getD ss (v - 1) false || (underP p && idle t ls hs v)
 
 -- `use v t`: 10, 3, 12, 15; after 10, at the supply s
 abbrev pub tickFault : ℕ → ℕ → Fault
-tickFault s t = unless (within t 1 maxTicks) Range (unless (not (eqb s 0)) Asleep (unless (leb t s) Supply Clear))
+tickFault s x = unless (within x 1 maxTicks) Range (unless (not (eqb s 0)) Asleep (unless (leb x s) Supply Clear))
 
 abbrev pub useFaultAt : OverrunChoice → List ℕ → List ℕ → List ℕ → List Bool → List ℕ → ℕ → ℕ → Fault
 useFaultAt c t ls os ss hs v x = unless (hasVcpu t v) Unknown (tickFault (supplyAt c t ls os ss hs v) x)

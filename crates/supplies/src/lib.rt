@@ -109,7 +109,7 @@ pub fn overrun_after<'a>(left: &'a [u64], over: &'a [u64], v: u64, t: u64) -> u6
     sub(seats::figure(over, v), rest)
 }
 
-// VCPU v stands at 0, with no global mutex held by its tasks.
+// VCPU v of the plan stands at 0, with no global mutex held by its tasks.
 fn idle<'a>(view: &[u64], left: &'a [u64], holder: &'a [u16], v: u64) -> bool
     requires { ⌜ v ≤ 16 ⌝ }
     ensures { λ r. ⌜ r ≡ idle (now (view .entry)) (now (left .entry)) (now (holder .entry)) v ⌝ }
@@ -191,8 +191,8 @@ fn task_fault<'a>(
     ensures { λ f. ⌜ f ≡ taskFault s (now (view .entry)) (now (holder .entry)) (now (waits .entry)) v n m ⌝ }
 {
     let busy = unless(no(busy(holder, waits, v, n)), Refusal::Busy, Fault::Clear);
-    let late = unless(no(s == 0), Refusal::Asleep, busy);
-    unless(seats::lists(view, v, n, m), Refusal::Unlisted, late)
+    let asleep = unless(no(s == 0), Refusal::Asleep, busy);
+    unless(seats::lists(view, v, n, m), Refusal::Unlisted, asleep)
 }
 
 // The task (v, n) and the mutex m are in the plan.

@@ -1,4 +1,4 @@
-// What is counted of a plan's lines: the rows of each table, the policy and the overrun choice. What it means stands in specs/Tally.
+// What is counted of a plan's lines: the rows of each table, the policy, the overrun choice, and the locks of the last task. What it means stands in specs/Tally.
 use lines::Said;
 use model::Found;
 use model::Kind;
