@@ -10,13 +10,14 @@ use Rattle.laws.specs.Sums.{flat}
 use Rattle.laws.specs.Rows.{rows}
 use Rattle.search.specs.declared.Answer.{Answer}
 use Rattle.search.specs.declared.Answer.the-variants.{Fits, Late}
+use Rattle.search.specs.Search.{rounds}
 use Rattle.search.specs.Row.{Row, rowIn}
 use Rattle.model.specs.Lookup.{global}
 use Rattle.tables.specs.Layout.{cell, lockRow, taskRow}
 use Rattle.figures.specs.System.{System}
 use Rattle.figures.specs.declared.TaskAnswer.{TaskAnswer}
 use Rattle.figures.specs.declared.TaskAnswer.the-variants.{Searched, NoWait, Held}
-use Rattle.figures.specs.Answers.{waitAnswer}
+use Rattle.figures.specs.Answers.{waitAnswer, ticksOf}
 
 abbrev pub rowCells : Row → List ℕ
 rowCells r = r .shift ∷ r .period ∷ r .cost ∷ []
@@ -29,16 +30,8 @@ abbrev pub answerKind : Answer → ℕ
 answerKind (Fits w n) = 1
 answerKind (Late n) = 0
 
-abbrev pub answerTicks : Answer → ℕ
-answerTicks (Fits w n) = w
-answerTicks (Late n) = 0
-
-abbrev pub answerRounds : Answer → ℕ
-answerRounds (Fits w n) = n
-answerRounds (Late n) = n
-
 abbrev pub answerRow : Answer → Row
-answerRow a = threeOf (answerKind a) (answerTicks a) (answerRounds a)
+answerRow a = threeOf (answerKind a) (ticksOf a) (rounds a)
 
 -- those of a task's answer
 abbrev pub taskKind : TaskAnswer → ℕ
@@ -47,12 +40,12 @@ taskKind NoWait = 2
 taskKind Held = 3
 
 abbrev pub taskTicks : TaskAnswer → ℕ
-taskTicks (Searched a) = answerTicks a
+taskTicks (Searched a) = ticksOf a
 taskTicks NoWait = 0
 taskTicks Held = 0
 
 abbrev pub taskRounds : TaskAnswer → ℕ
-taskRounds (Searched a) = answerRounds a
+taskRounds (Searched a) = rounds a
 taskRounds NoWait = 0
 taskRounds Held = 0
 
@@ -63,7 +56,7 @@ taskAnswerRow a = threeOf (taskKind a) (taskTicks a) (taskRounds a)
 unfoldable pub isSection : System → List ℕ → ℕ → ℕ → Bool
 isSection s t i j = ltb j (cell t 29 i 4) && global (s .mutexes) (lockRow t i j .m)
 
--- the numbers of place j of task i
+-- the numbers of place j of task i, zeros where no global section stands there
 unfoldable pub placeRow : System → List ℕ → ℕ → ℕ → Row
 placeRow s t i j = if isSection s t i j then answerRow (waitAnswer s (taskRow t i) (lockRow t i j)) else threeOf 0 0 0
 
@@ -79,5 +72,5 @@ pub record Filled {A : Type 0} (f : A → Row) (thing : ℕ → A) (xs₀ : List
 
 -- wa has the answers of the waits, row by row
 pub record Places (s : System) (t : List ℕ) (n : ℕ) (wa : List ℕ) : Type 0 where
-  pub room : 1536 ≤ length wa
+  pub room : n * 3 ≤ length wa
   pub at : (k : ℕ) → k < n → rowIn wa k ≡ placeAt s t k

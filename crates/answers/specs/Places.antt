@@ -12,12 +12,12 @@ use Rattle.laws.specs.Choice.{if_then_else_, when}
 use Rattle.laws.specs.Sums.{flat}
 use Rattle.laws.specs.Rows.{rows, Is}
 use Rattle.laws.specs.RowLaws.{rows-length}
+use Rattle.laws.specs.SumLaws.{flat-append}
 use Rattle.search.specs.declared.Answer.{Answer}
 use Rattle.search.specs.declared.Answer.the-variants.{Fits, Late}
 use Rattle.search.specs.Search.{window, Smallest, solve}
 use Rattle.search.specs.SearchLaws.{solve-right}
 use Rattle.search.specs.Row.{rowIn}
-use Rattle.search.specs.TableLaws.{flat-append}
 use Rattle.model.specs.Plan.{Lock, Task}
 use Rattle.model.specs.Lookup.{global}
 use Rattle.tables.specs.Layout.{cell, zeros, over, vcpuRow, lockRow, taskRow}
@@ -42,30 +42,30 @@ task-answer-cells NoWait = refl
 task-answer-cells Held = refl
 
 -- ROWS BY THEIR NUMBER
-abbrev pub flatTo : {B : Type 0} → ℕ → (ℕ → List B) → List B
-flatTo n f = flat f (rows n (λ k. k))
+abbrev pub flatBelow : {B : Type 0} → ℕ → (ℕ → List B) → List B
+flatBelow n f = flat f (rows n (λ k. k))
 
 module _ {B : Type 0} where
-  to-next : (f : ℕ → List B) (n : ℕ) → flatTo (suc n) f ≡ flatTo n f ++ f n
+  to-next : (f : ℕ → List B) (n : ℕ) → flatBelow (suc n) f ≡ flatBelow n f ++ f n
   unfolding rows flat
-  to-next f n = flat-append f (rows n (λ k. k)) (n ∷ []) ∙ ap (λ l. flatTo n f ++ l) (append-nil (f n))
+  to-next f n = flat-append f (rows n (λ k. k)) (n ∷ []) ∙ ap (λ l. flatBelow n f ++ l) (append-nil (f n))
 
-  to-same : (n : ℕ) (f g : ℕ → List B) → ((k : ℕ) → k < n → f k ≡ g k) → flatTo n f ≡ flatTo n g
+  to-same : (n : ℕ) (f g : ℕ → List B) → ((k : ℕ) → k < n → f k ≡ g k) → flatBelow n f ≡ flatBelow n g
   unfolding rows flat
   to-same zero f g h = refl
   to-same (suc n) f g h = to-next f n ∙ ap₂ _++_ (to-same n f g (λ k l. h k (omega arith))) (h n (omega arith)) ∙ sym (to-next g n)
 
-  to-add : (a b : ℕ) (f : ℕ → List B) → flatTo (a + b) f ≡ flatTo a f ++ flatTo b (λ j. f (a + j))
+  to-add : (a b : ℕ) (f : ℕ → List B) → flatBelow (a + b) f ≡ flatBelow a f ++ flatBelow b (λ j. f (a + j))
   unfolding rows flat
-  to-add a zero f = ap (λ m. flatTo m f) {x = a + 0} {y = a} (omega arith) ∙ sym (append-nil (flatTo a f))
+  to-add a zero f = ap (λ m. flatBelow m f) {x = a + 0} {y = a} (omega arith) ∙ sym (append-nil (flatBelow a f))
   to-add a (suc b) f =
-      ap (λ m. flatTo m f) {x = a + suc b} {y = suc (a + b)} (omega arith)
+      ap (λ m. flatBelow m f) {x = a + suc b} {y = suc (a + b)} (omega arith)
       ∙ to-next f (a + b)
       ∙ ap (λ l. l ++ f (a + b)) (to-add a b f)
-      ∙ append-assoc (flatTo a f) (flatTo b (λ j. f (a + j))) (f (a + b))
-      ∙ ap (λ l. flatTo a f ++ l) (sym (to-next (λ j. f (a + j)) b))
+      ∙ append-assoc (flatBelow a f) (flatBelow b (λ j. f (a + j))) (f (a + b))
+      ∙ ap (λ l. flatBelow a f ++ l) (sym (to-next (λ j. f (a + j)) b))
 
-  to-rows : {A : Type 0} (g : A → List B) (row : ℕ → A) (n : ℕ) → flat g (rows n row) ≡ flatTo n (λ k. g (row k))
+  to-rows : {A : Type 0} (g : A → List B) (row : ℕ → A) (n : ℕ) → flat g (rows n row) ≡ flatBelow n (λ k. g (row k))
   unfolding rows flat
   to-rows g row zero = refl
   to-rows g row (suc n) =
@@ -79,7 +79,7 @@ unfolding zeros
 zeros-add zero b = ap zeros {x = 0 + b} {y = b} (omega arith)
 zeros-add (suc a) b = ap zeros {x = suc a + b} {y = suc (a + b)} (omega arith) ∙ ap (λ l. 0 ∷ l) (zeros-add a b)
 
-zero-cells : (d : ℕ) → flatTo d (λ j. rowCells (threeOf 0 0 0)) ≡ zeros (d * 3)
+zero-cells : (d : ℕ) → flatBelow d (λ j. rowCells (threeOf 0 0 0)) ≡ zeros (d * 3)
 unfolding zeros rows flat
 zero-cells zero = refl
 zero-cells (suc d) =
@@ -104,12 +104,12 @@ module _ (s : System) (t : List ℕ) (i j : ℕ) where
   unfolding placeRow isSection
   place-out l = rw (le-ltb j (cell t 29 i 4) l)
 
-place-cells : (s : System) (t : List ℕ) (i : ℕ) → cell t 29 i 4 ≤ 8 → flatTo 8 (λ j. rowCells (placeRow s t i j)) ≡ placeCells s (taskRow t i)
+place-cells : (s : System) (t : List ℕ) (i : ℕ) → cell t 29 i 4 ≤ 8 → flatBelow 8 (λ j. rowCells (placeRow s t i j)) ≡ placeCells s (taskRow t i)
 unfolding placeCells taskRow
 place-cells s t i h =
     let c = cell t 29 i 4 in
     let k = taskRow t i in
-    ap (λ m. flatTo m (λ j. rowCells (placeRow s t i j))) {x = 8} {y = c + (8 - c)} (omega arith)
+    ap (λ m. flatBelow m (λ j. rowCells (placeRow s t i j))) {x = 8} {y = c + (8 - c)} (omega arith)
     ∙ to-add c (8 - c) (λ j. rowCells (placeRow s t i j))
     ∙ ap₂ _++_
     (to-same c _ _ (λ j l. ap rowCells (place-in s t i j l) ∙ choice-cells (global (s .mutexes) (lockRow t i j .m)) (waitAnswer s k (lockRow t i j)))
@@ -119,11 +119,11 @@ place-cells s t i h =
     ∙ ap (λ m. zeros ((8 - m) * 3)) (sym (rows-length c (lockRow t i))))
 
 waits-are : (s : System) (t : List ℕ) (n : ℕ) → ((i : ℕ) → i < n → cell t 29 i 4 ≤ 8)
-    → flatTo (n * 8) (λ k. rowCells (placeAt s t k)) ≡ flat (placeCells s) (rows n (taskRow t))
+    → flatBelow (n * 8) (λ k. rowCells (placeAt s t k)) ≡ flat (placeCells s) (rows n (taskRow t))
 unfolding rows flat
 waits-are s t zero h = refl
 waits-are s t (suc n) h =
-    ap (λ m. flatTo m (λ k. rowCells (placeAt s t k))) {x = suc n * 8} {y = n * 8 + 8} (omega arith)
+    ap (λ m. flatBelow m (λ k. rowCells (placeAt s t k))) {x = suc n * 8} {y = n * 8 + 8} (omega arith)
     ∙ to-add (n * 8) 8 (λ k. rowCells (placeAt s t k))
     ∙ ap₂ _++_ (waits-are s t n (λ i l. h i (omega arith)))
     (to-same 8 _ _ (λ j l.

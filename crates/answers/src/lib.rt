@@ -8,6 +8,7 @@ ghost use Prim.Native.Nat.{ℕ, _+_, _*_, _<_, _≤_};
 ghost use lib.ListN.{length};
 ghost use Rattle.laws.specs.Choice.{when};
 ghost use Rattle.laws.specs.Rows.{Is};
+ghost use Rattle.search.specs.Search.{rounds};
 ghost use Rattle.search.specs.Row.{rowIn, pushed};
 ghost use Rattle.model.specs.Lookup.{global};
 ghost use Rattle.tables.specs.Layout.{cell, over, lockRow, taskRow};
@@ -16,7 +17,7 @@ ghost use Rattle.figures.specs.Answers.{waitAnswer, ticksOf, isLate, remoteWait
 ghost use Rattle.stored.specs.Stored.{TasksIn, BlockingsIn, VcpusIn, ResponsesIn, Held as HeldAt, Stored};
 ghost use Rattle.checker.specs.Store.{vcpuAnswers, waitAnswers, taskAnswers};
 ghost use Rattle.tasktimes.specs.Waits.{WaitsIn};
-ghost use Rattle.answers.specs.Filled.{answerKind, answerTicks, answerRounds, answerRow, taskKind, taskTicks, taskRounds, taskAnswerRow, isSection, placeAt, Places};
+ghost use Rattle.answers.specs.Filled.{answerKind, answerRow, taskKind, taskTicks, taskRounds, taskAnswerRow, isSection, placeAt, Places};
 
 // What an answer is: 0 late, 1 fits.
 fn kind_of(a: Answer) -> u64
@@ -30,7 +31,7 @@ fn kind_of(a: Answer) -> u64
 
 // The window of an answer, 0 where it is lacking.
 fn ticks_of(a: Answer) -> u64
-    ensures { λ x. ⌜ x ≡ answerTicks a ⌝ }
+    ensures { λ x. ⌜ x ≡ ticksOf a ⌝ }
 {
     match a {
         Answer::Fits { w, rounds } => w,
@@ -40,7 +41,7 @@ fn ticks_of(a: Answer) -> u64
 
 // The rounds of an answer.
 fn rounds_of(a: Answer) -> u64
-    ensures { λ x. ⌜ x ≡ answerRounds a ⌝ }
+    ensures { λ x. ⌜ x ≡ rounds a ⌝ }
 {
     match a {
         Answer::Fits { w, rounds } => rounds,
@@ -102,7 +103,7 @@ fn wait_at(
     i: usize,
     j: usize,
 ) -> Answer
-    requires { ⌜ Fit r (now vt) (now mt) (now ts) × ResponsesIn r (now vt) (now mt) (now ts) (now rf) × (512 ≤ length (now rf)) × (i < r .tasks) × (j < 8) × (global (systemIn r (now vt) (now mt) (now ts) .mutexes) (lockRow (now ts) i j .m) ≡ true) × (240 ≤ length (now rows)) ⌝ }
+    requires { ⌜ Fit r (now vt) (now mt) (now ts) × ResponsesIn r (now vt) (now mt) (now ts) (now rf) × (r .tasks * 8 ≤ length (now rf)) × (i < r .tasks) × (j < 8) × (global (systemIn r (now vt) (now mt) (now ts) .mutexes) (lockRow (now ts) i j .m) ≡ true) × (240 ≤ length (now rows)) ⌝ }
     ensures { λ x. ⌜ x ≡ waitAnswer (systemIn r (now (vt .entry)) (now (mt .entry)) (now (ts .entry))) (taskRow (now (ts .entry)) i) (lockRow (now (ts .entry)) i j) ⌝ }
 {
     let v = cells::task_cell(r, vt, mt, ts, i, 0);
@@ -150,7 +151,7 @@ fn put_wait(
     wa: &mut [u64],
     k: usize,
 )
-    requires { ⌜ Fit r (now vt) (now mt) (now ts) × ResponsesIn r (now vt) (now mt) (now ts) (now rf) × (512 ≤ length (now rf)) × (k < r .tasks * 8) × (240 ≤ length (now rows)) × (1536 ≤ length (now wa)) × ((q : ℕ) → q < k → rowIn (now wa) q ≡ placeAt (systemIn r (now vt) (now mt) (now ts)) (now ts) q) ⌝ }
+    requires { ⌜ Fit r (now vt) (now mt) (now ts) × ResponsesIn r (now vt) (now mt) (now ts) (now rf) × (r .tasks * 8 ≤ length (now rf)) × (k < r .tasks * 8) × (240 ≤ length (now rows)) × (r .tasks * 24 ≤ length (now wa)) × ((q : ℕ) → q < k → rowIn (now wa) q ≡ placeAt (systemIn r (now vt) (now mt) (now ts)) (now ts) q) ⌝ }
     ensures { λ out. ⌜ now (wa .exit) ≡ pushed (now (wa .entry)) k (placeAt (systemIn r (now (vt .entry)) (now (mt .entry)) (now (ts .entry))) (now (ts .entry)) k) ⌝ }
 {
     let i = k / 8;
@@ -178,7 +179,7 @@ fn fill_waits(
     rows: &mut [u64],
     wa: &mut [u64],
 )
-    requires { ⌜ Fit r (now vt) (now mt) (now ts) × ResponsesIn r (now vt) (now mt) (now ts) (now rf) × (512 ≤ length (now rf)) × (240 ≤ length (now rows)) × (1536 ≤ length (now wa)) ⌝ }
+    requires { ⌜ Fit r (now vt) (now mt) (now ts) × ResponsesIn r (now vt) (now mt) (now ts) (now rf) × (r .tasks * 8 ≤ length (now rf)) × (240 ≤ length (now rows)) × (r .tasks * 24 ≤ length (now wa)) ⌝ }
     ensures { λ out. ⌜ (now (wa .exit) ≡ over (waitAnswers (systemIn r (now (vt .entry)) (now (mt .entry)) (now (ts .entry)))) (now (wa .entry))) × Places (systemIn r (now (vt .entry)) (now (mt .entry)) (now (ts .entry))) (now (ts .entry)) (r .tasks * 8) (now (wa .exit)) ⌝ }
 {
     let n = r.tasks * 8;
@@ -345,7 +346,7 @@ fn fill_tasks(
     rows: &mut [u64],
     ta: &mut [u64],
 )
-    requires { ⌜ Fit r (now vt) (now mt) (now ts) × TasksIn r (now vt) (now mt) (now ts) (now tf) × BlockingsIn r (now vt) (now mt) (now ts) (now tf) × WaitsIn r (now vt) (now mt) (now ts) (now ws) (now fs) × (240 ≤ length (now rows)) × (192 ≤ length (now ta)) ⌝ }
+    requires { ⌜ Fit r (now vt) (now mt) (now ts) × TasksIn r (now vt) (now mt) (now ts) (now tf) × BlockingsIn r (now vt) (now mt) (now ts) (now tf) × WaitsIn r (now vt) (now mt) (now ts) (now ws) (now fs) × (240 ≤ length (now rows)) × (r .tasks * 3 ≤ length (now ta)) ⌝ }
     ensures { λ out. ⌜ now (ta .exit) ≡ over (taskAnswers (systemIn r (now (vt .entry)) (now (mt .entry)) (now (ts .entry)))) (now (ta .entry)) ⌝ }
 {
     let n = r.tasks;
@@ -374,7 +375,7 @@ pub fn answers(
     ta: &mut [u64],
 )
     requires { ⌜ Fit r (now vt) (now mt) (now ts) × Stored r (now vt) (now mt) (now ts) (now tf) (now vf) (now rf) ⌝ }
-    requires { ⌜ (240 ≤ length (now rows)) × (64 ≤ length (now ws)) × (64 ≤ length (now fs)) × (48 ≤ length (now va)) × (1536 ≤ length (now wa)) × (192 ≤ length (now ta)) ⌝ }
+    requires { ⌜ (240 ≤ length (now rows)) × (64 ≤ length (now ws)) × (64 ≤ length (now fs)) × (48 ≤ length (now va)) × (r .tasks * 24 ≤ length (now wa)) × (r .tasks * 3 ≤ length (now ta)) ⌝ }
     ensures { λ out. ⌜ (now (va .exit) ≡ over (vcpuAnswers (systemIn r (now (vt .entry)) (now (mt .entry)) (now (ts .entry)))) (now (va .entry))) × (now (wa .exit) ≡ over (waitAnswers (systemIn r (now (vt .entry)) (now (mt .entry)) (now (ts .entry)))) (now (wa .entry))) × (now (ta .exit) ≡ over (taskAnswers (systemIn r (now (vt .entry)) (now (mt .entry)) (now (ts .entry)))) (now (ta .entry))) ⌝ }
 {
     fill_vcpus(r, vt, mt, ts, tf, vf, rows, va);

@@ -1,6 +1,6 @@
 -- The board over lent tables: 9 for the tables, then 9 for the board, then the event's own refusals.
 use Prim.Native.Nat.{_*_}
-use mathlib.Core.Bool.{Bool, true, false}
+use mathlib.Core.Bool.{true, false}
 use Rattle.laws.specs.Range.{listTo}
 use Rattle.model.specs.Limits.{maxV, maxM, maxN}
 use Rattle.model.specs.declared.Refusal.the-variants.{Foreign}

@@ -1,6 +1,6 @@
 -- The board over lent tables: from a fresh board no event is answered 9, 9 is answered exactly where a test fails, and a refusal leaves the board as it was.
 use Prim.Native.Nat.{ℕ}
-use mathlib.Core.Path.{_≡_, refl, sym, _∙_}
+use mathlib.Core.Path.{_≡_, refl, _∙_}
 use mathlib.Core.Bool.{true, false}
 use mathlib.Core.List.{List, [], _∷_}
 use mathlib.Core.Logic.{_⊎_, inl, inr, ⊎-elim, _↔_}
@@ -9,8 +9,6 @@ use lib.ListN.{take}
 use Rattle.laws.specs.Sums.{Each}
 use Rattle.model.specs.declared.Refusal.{Refusal}
 use Rattle.model.specs.declared.Refusal.the-variants.{Foreign}
-use Rattle.model.specs.declared.Fault.{Fault}
-use Rattle.model.specs.declared.Fault.the-variants.{Clear, Bad}
 use Rattle.tables.specs.declared.PlanRecord.{PlanRecord}
 use Rattle.tables.specs.Layout.{Tables}
 use Rattle.tables.specs.Given.{planIn, isGiven}
@@ -20,57 +18,24 @@ use Rattle.lockboard.specs.Facts.{Facts}
 use Rattle.lockboard.specs.View.{viewLength, factsIn}
 use Rattle.lockboard.specs.declared.Board.{Board}
 use Rattle.lockboard.specs.declared.Event.{Event}
-use Rattle.lockboard.specs.declared.Event.the-variants.{Ask, Free, Use, Top, Show}
 use Rattle.lockboard.specs.declared.BoardAnswer.{BoardAnswer}
 use Rattle.lockboard.specs.declared.BoardAnswer.the-variants.{Refused}
-use Rattle.lockboard.specs.declared.Outcome.{Outcome}
-use Rattle.lockboard.specs.Board.{fresh, refused, good, step, stepOn, answered, mayHave, asked, freed, freedGlobal, freedLocal, used, topped, shown, askFault, freeFault, useFault, topFault, showFault}
+use Rattle.lockboard.specs.Board.{fresh, refused, good, step, stepOn}
 use Rattle.lockboard.specs.Events.{answers}
 use Rattle.keeps.specs.Cases.{never, clash, bool-cases}
 use Rattle.keeps.specs.Fair.{Fair}
 use Rattle.keeps.specs.FairLaws.{fair}
-use Rattle.keeps.specs.Shaped.{Shaped, fresh-shaped}
+use Rattle.keeps.specs.Shaped.{Shaped}
+use Rattle.keeps.specs.Leaves.{Leaves, step-leaves}
 use Rattle.keeps.specs.Keeps.{step-keeps}
 use Rattle.keeps.specs.Runs as runs
-use Rattle.keeps.specs.NotNine.{step-not-nine}
+use Rattle.keeps.specs.NotNine.{step-not-nine, NotNine}
 use Rattle.keeps.specs.Tested.{answersOn, fresh-answers-on}
 use Rattle.views.specs.ViewOf.{viewOf}
 use Rattle.views.specs.TableLaws.{given-facts}
-use Rattle.boards.specs.Entered.{FreshBoard, Made, NoBoard, factsFrom, noBoard, freshFor, stepFor}
+use Rattle.boards.specs.Entered.{Made, NoBoard, factsFrom, noBoard, freshFor, stepFor}
 
--- an answer that is not 9
-abbrev pub NotNine : BoardAnswer → Type 0
-NotNine a = a ≡ Refused Foreign → ⊥
-
--- an outcome that is refused has the board b
-abbrev Leaves : Board → Outcome → Type 0
-Leaves b o = (x : Refusal) → o .answer ≡ Refused x → o .board ≡ b
-
--- an answer that is no refusal
-abbrev Told : BoardAnswer → Type 0
-Told a = (x : Refusal) → a ≡ Refused x → ⊥
-
-answered-leaves : (b : Board) (f : Fault) (o : Outcome) → Told (o .answer) → Leaves b (answered b f o)
-answered-leaves b Clear o h x e = absurd (h x e)
-answered-leaves b (Bad r) o h x e = refl
-
--- a refused event leaves the board as it was
-step-leaves : (F : Facts) (b : Board) (e : Event) → Leaves b (step F b e)
-unfolding step asked freed freedGlobal freedLocal used topped
-step-leaves F b (Ask v n m) =
-    answered-leaves b (askFault F b v n m) (asked F b v n m)
-    (⊎-elim (λ h. rw h (λ x e. let z : _≡_ {A = ℕ} 0 1 = cc in omega arith)) (λ h. rw h (λ x e. let z : _≡_ {A = ℕ} 0 1 = cc in omega arith)) (bool-cases (mayHave F b v n m)))
-step-leaves F b (Free v n m) =
-    answered-leaves b (freeFault F b v n m) (freed F b v m)
-    (⊎-elim (λ h. rw h (λ x e. let z : _≡_ {A = ℕ} 0 1 = cc in omega arith)) (λ h. rw h (λ x e. let z : _≡_ {A = ℕ} 0 1 = cc in omega arith)) (bool-cases (F .global m)))
-step-leaves F b (Use v t) = answered-leaves b (useFault F b v t) (used F b v t) (λ x e. let z : _≡_ {A = ℕ} 0 1 = cc in omega arith)
-step-leaves F b (Top v) = answered-leaves b (topFault F v) (topped F b v) (λ x e. let z : _≡_ {A = ℕ} 0 1 = cc in omega arith)
-step-leaves F b (Show v n) = answered-leaves b (showFault F v n) (shown F b v n) (λ x e. let z : _≡_ {A = ℕ} 0 1 = cc in omega arith)
-
--- the test for 9 of the board
-pub tested-good : (F : Facts) (b : Board) (e : Event) → good F b ≡ true → stepOn F b e ≡ step F b e
-tested-good F b e g = runs.step-on F b g e
-
+-- a board that fails its test for 9
 pub tested-other : (F : Facts) (b : Board) (e : Event) → good F b ≡ false → stepOn F b e ≡ refused b Foreign
 unfolding stepOn
 tested-other F b e g = rw g
@@ -137,9 +102,6 @@ module _ (r : PlanRecord) (t : Tables) where
 
   pub fresh-good : freshFor r t .answer ≡ Made → good (factsFrom r t) (freshFor r t .board) ≡ true
   fresh-good e = let h = fresh-of e in rw (h .1) (runs.fresh-good (fair-from (h .0)))
-
-  pub fresh-is-shaped : freshFor r t .answer ≡ Made → Shaped (freshFor r t .board)
-  fresh-is-shaped e = rw (fresh-of e .1) (fresh-shaped (factsFrom r t))
 
   -- an event keeps the conditions for 9 (a board's lists have the lengths of its arrays)
   pub step-good : {b : Board} → isGiven r t ≡ true → Shaped b → good (factsFrom r t) b ≡ true → (e : Event) → good (factsFrom r t) (stepFor r t b e .board) ≡ true

@@ -93,17 +93,6 @@ pub fn fresh(r: PlanRecord, vt: &[u64], mt: &[u64], ot: &[u64], ts: &[u64]) -> F
     not_made(no_board(), Refusal::Foreign)
 }
 
-// Refused: the board is as it was.
-fn refused(b: Board, k: Refusal) -> Outcome
-    ensures { λ a. ⌜ a ≡ board.refused b k ⌝ }
-{
-    let a = BoardAnswer::Refused(k);
-    Outcome {
-        answer: a,
-        board: b,
-    }
-}
-
 // One event, after the test of the board for 9.
 fn step_tested(b: Board, policy: Policy, choice: OverrunChoice, view: &[u64], e: Event) -> Outcome
     ensures { λ a. ⌜ a ≡ board.stepOn (factsIn policy choice (now (view .entry))) b e ⌝ }
@@ -111,7 +100,7 @@ fn step_tested(b: Board, policy: Policy, choice: OverrunChoice, view: &[u64], e:
     if b.good(policy, choice, view) {
         return b.step_on(policy, choice, view, e);
     }
-    refused(b, Refusal::Foreign)
+    b.refuse(Refusal::Foreign)
 }
 
 // One event, over tables that an accepted plan gives.
@@ -134,7 +123,7 @@ fn step_given(
     step_tested(b, policy, choice, &view, e)
 }
 
-// One event.
+// One event: 9 for the tables, 9 for the board, then its own refusals; where it is refused, the board as it was.
 pub fn step(
     b: Board,
     r: PlanRecord,
@@ -149,7 +138,7 @@ pub fn step(
     if given::is_given(r, vt, mt, ot, ts) {
         return step_given(b, r, vt, mt, ot, ts, e);
     }
-    refused(b, Refusal::Foreign)
+    b.refuse(Refusal::Foreign)
 }
 
 // `ask v n m`

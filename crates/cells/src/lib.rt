@@ -1,8 +1,9 @@
 // What the rows of a plan in lent tables say: their numbers, and the figures of one row. The figures stand in crate figures, specs/Figures.
+use model::larger;
 use tables::PlanRecord;
 ghost use mathlib.Core.Path.{_≡_};
 ghost use mathlib.Core.Bool.{_&&_};
-ghost use Prim.Native.Nat.{_+_, _*_, _<_, max};
+ghost use Prim.Native.Nat.{_+_, _*_, _<_};
 ghost use lib.Dec.{eqb};
 ghost use Rattle.laws.specs.Choice.{when};
 ghost use Rattle.laws.specs.Rows.{Is};
@@ -107,13 +108,6 @@ pub fn is_local(r: PlanRecord, vt: &[u64], mt: &[u64], ts: &[u64], v: u64, m: u6
         a += 1;
     }
     false
-}
-
-// The larger of two numbers.
-pub fn larger(a: u64, b: u64) -> u64
-    ensures { λ x. ⌜ x ≡ max a b ⌝ }
-{
-    if a < b { b } else { a }
 }
 
 // The ticks of lock j of task i where it is a global section, else 0.
@@ -222,7 +216,7 @@ pub fn row_task(r: PlanRecord, vt: &[u64], mt: &[u64], ts: &[u64], i: usize, v: 
 }
 
 // Does task i lock m?
-pub fn locks_it(r: PlanRecord, vt: &[u64], mt: &[u64], ts: &[u64], i: usize, m: u64) -> bool
+fn locks_it(r: PlanRecord, vt: &[u64], mt: &[u64], ts: &[u64], i: usize, m: u64) -> bool
     requires { ⌜ Fit r (now vt) (now mt) (now ts) × (i < r .tasks) ⌝ }
     ensures { λ x. ⌜ x ≡ locksIt m (taskRow (now (ts .entry)) i) ⌝ }
 {

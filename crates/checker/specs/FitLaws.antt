@@ -1,10 +1,8 @@
 -- Tables that pass the test for 9 are fit for the figures' code, and the system in them is the plan's.
 use Prim.Native.Nat.{ℕ, _<_}
-use mathlib.Core.Path.{_≡_, refl}
+use mathlib.Core.Path.{_≡_}
 use mathlib.Core.Bool.{true}
-use native.Mathlib.Omega.{arith}
 use Rattle.laws.specs.Rows.{rows}
-use Rattle.model.specs.Plan.{Task}
 use Rattle.model.specs.Lookup.{hasVcpu}
 use Rattle.model.specs.LookupLaws.{of-has}
 use Rattle.model.specs.Valid.{Valid}

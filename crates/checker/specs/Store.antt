@@ -1,14 +1,13 @@
 -- The answers of a whole plan, worked out once into number slices: three numbers for each VCPU, each lock place and each task.
-use Prim.Native.Nat.{ℕ, zero, suc, _+_, _-_, _*_}
+use Prim.Native.Nat.{ℕ, _-_, _*_}
 use mathlib.Core.List.{List, [], _∷_, _++_}
-use mathlib.Core.Bool.{Bool, true, false}
 use lib.ListN.{length}
 use Rattle.laws.specs.Choice.{if_then_else_}
 use Rattle.laws.specs.Sums.{flat}
 use Rattle.search.specs.declared.Answer.{Answer}
 use Rattle.search.specs.declared.Answer.the-variants.{Fits, Late}
 use Rattle.model.specs.Limits.{maxLocks}
-use Rattle.model.specs.Plan.{Vcpu, Lock, Task}
+use Rattle.model.specs.Plan.{Lock, Task}
 use Rattle.model.specs.Lookup.{global}
 use Rattle.tables.specs.Layout.{zeros}
 use Rattle.figures.specs.System.{System}

@@ -1,7 +1,7 @@
 -- Event after event over lent tables: the last board, the ledger and locality, said of the calls `fresh` and `step`.
 use Prim.Native.Nat.{ℕ, _+_}
 use mathlib.Core.Path.{_≡_, refl, sym, subst, _∙_}
-use mathlib.Core.Bool.{true, false}
+use mathlib.Core.Bool.{true}
 use mathlib.Core.List.{List, [], _∷_}
 use mathlib.Core.Logic.{⊎-elim}
 use Rattle.tables.specs.declared.PlanRecord.{PlanRecord}
@@ -13,16 +13,17 @@ use Rattle.lockboard.specs.declared.Event.{Event}
 use Rattle.lockboard.specs.declared.Event.the-variants.{Ask, Free}
 use Rattle.lockboard.specs.declared.Outcome.{Outcome}
 use Rattle.lockboard.specs.Board.{leftOf, overOf, step, good}
-use Rattle.lockboard.specs.Events.{answers, boardAfter}
+use Rattle.lockboard.specs.Events.{boardAfter}
 use Rattle.keeps.specs.Cases.{bool-cases}
 use Rattle.keeps.specs.Shaped.{Shaped}
 use Rattle.keeps.specs.Ledger.{ledger}
 use Rattle.keeps.specs.LedgerLaws.{ledger-balance}
-use Rattle.keeps.specs.Locality.{Untouched, untouched, ask-local, free-local}
+use Rattle.keeps.specs.Locality.{Untouched, untouched, ask-local, free-local, ask-elsewhere, free-elsewhere}
 use Rattle.keeps.specs.Tested.{boardOn, fresh-board-on}
+use Rattle.keeps.specs.Runs.{step-on}
 use Rattle.boards.specs.declared.FreshAnswer.the-variants.{Made}
 use Rattle.boards.specs.Entered.{factsFrom, freshFor, stepFor}
-use Rattle.boards.specs.EnteredLaws.{runFor, step-other, step-given, fair-from, fresh-of, tested-good, tested-other, run-answers}
+use Rattle.boards.specs.EnteredLaws.{runFor, step-other, step-given, fair-from, fresh-of, tested-other, run-answers}
 
 module _ (r : PlanRecord) (t : Tables) where
   abbrev F : Facts
@@ -56,16 +57,24 @@ module _ (r : PlanRecord) (t : Tables) where
   step-cases {b} e P p q =
       ⊎-elim
       (λ g.
-      ⊎-elim (λ h. subst (λ (o : Outcome). P (o .board)) (sym (step-given r t g b e ∙ tested-good F b e h)) (q g h))
+      ⊎-elim (λ h. subst (λ (o : Outcome). P (o .board)) (sym (step-given r t g b e ∙ step-on F b h e)) (q g h))
       (λ h. subst (λ (o : Outcome). P (o .board)) (sym (step-given r t g b e ∙ tested-other F b e h)) p)
       (bool-cases (good F b)))
       (λ g. subst (λ (o : Outcome). P (o .board)) (sym (step-other r t g b e)) p)
       (bool-cases (isGiven r t))
 
-  -- "An event on one VCPU's local mutexes changes no other VCPU's record and no global mutex" (a board's lists have the lengths of its arrays)
+  -- "An event on one VCPU's local mutexes changes no other VCPU's record and no global mutex" (a board's lists have the lengths of its arrays): by a task of that VCPU
   module _ {b : Board} (s : Shaped b) (v n m : ℕ) (loc : F .localTo v m ≡ true) where
     pub call-ask-local : Untouched F v b (stepFor r t b (Ask v n m) .board)
     call-ask-local = step-cases (Ask v n m) (Untouched F v b) (untouched F v b) (λ g h. ask-local (fair-from r t g) s h v n m loc)
 
     pub call-free-local : Untouched F v b (stepFor r t b (Free v n m) .board)
     call-free-local = step-cases (Free v n m) (Untouched F v b) (untouched F v b) (λ g h. free-local (fair-from r t g) s h v n m loc)
+
+  -- the same by a task of another VCPU: nothing changes
+  module _ {b : Board} (v w n m : ℕ) (loc : F .localTo v m ≡ true) (other : w ≡ v → ⊥) where
+    pub call-ask-elsewhere : stepFor r t b (Ask w n m) .board ≡ b
+    call-ask-elsewhere = step-cases (Ask w n m) (λ (c : Board). c ≡ b) refl (λ g h. ask-elsewhere (fair-from r t g) b v w n m loc other)
+
+    pub call-free-elsewhere : stepFor r t b (Free w n m) .board ≡ b
+    call-free-elsewhere = step-cases (Free w n m) (λ (c : Board). c ≡ b) refl (λ g h. free-elsewhere (fair-from r t g) b v w n m loc other h)

@@ -1,20 +1,28 @@
--- "That any two results allowed by one statement coincide is proved": for each public function, two results of a call, with all that two calls leave of what was lent, that its contract allows are the same.
+-- "That any two results allowed by one statement coincide is proved": for each public entry (docs/DECISIONS.md, "Inner functions"), and for `read_lines`, `read_line` and `answers`, two results of a call, with all that two calls leave of what was lent, that its contract allows are the same.
 -- Each contract is one or more equations with a definition or an argument, so that one law serves all: `once`.
 use Prim.Native.Nat.{ℕ}
 use mathlib.Core.Path.{_≡_}
 use mathlib.Core.Bool.{Bool}
 use mathlib.Core.List.{List}
 use lib.IntN.{ℤ}
+use lib.ListN.{length}
 use denote.Ref.{RefT}
+use Rattle.laws.specs.Bytes.{pieces}
 use Rattle.laws.specs.Once.{once}
+use Rattle.model.specs.Limits.{lf}
 use Rattle.tables.specs.declared.PlanRecord.{PlanRecord}
 use Rattle.tables.specs.Layout.{Tables}
 use Rattle.tables.specs.Given.{isGiven}
+use Rattle.coded.specs.Coded.{start}
+use Rattle.tallies.specs.Tally.{blank}
+use Rattle.filler.specs.Fill.{vcpuPut, mutexPut, openPut, taskPut}
 use Rattle.reader.specs.declared.PlanAnswer.{PlanAnswer}
 use Rattle.reader.specs.Into.{planAnswer, tablesAfter}
+use Rattle.reader.specs.Judged.{judgedFrom, linesLeft}
 use Rattle.scan.specs.declared.Line.{Line}
 use Rattle.scan.specs.declared.LineReader.{LineReader}
-use Rattle.scan.specs.Scan.{lineAt}
+use Rattle.scan.specs.declared.Step.{Step}
+use Rattle.scan.specs.Scan.{lineAt, stepAt}
 use Rattle.entries.specs.declared.RowAnswer.{RowAnswer}
 use Rattle.entries.specs.declared.TaskRowAnswer.{TaskRowAnswer}
 use Rattle.entries.specs.declared.FigureAnswer.{FigureAnswer}
@@ -28,11 +36,14 @@ use Rattle.lockboard.specs.declared.Event.{Event}
 use Rattle.lockboard.specs.declared.Event.the-variants.{Ask, Free, Use, Top, Show}
 use Rattle.lockboard.specs.declared.Outcome.{Outcome}
 use Rattle.lockboard.specs.declared.BoardAnswer.{BoardAnswer}
+use Rattle.lockboard.specs.Facts.{Facts}
 use Rattle.lockboard.specs.Events.{boardText}
+use Rattle.events.specs.Tells.{toldInto}
+use Rattle.rooms.specs.Boarded.{answersOn}
 use Rattle.boards.specs.declared.FreshBoard.{FreshBoard}
 use Rattle.boards.specs.Entered.{freshFor, stepFor}
 use Rattle.records.specs.declared.Task.{Task}
-use Rattle.records.specs.Sheet.{tablesOf, sheetsAfter}
+use Rattle.records.specs.ReadLaws.{ReadOut}
 use Rattle.sheets.specs.declared.Question.{Question}
 use Rattle.sheets.specs.declared.Replied.{Replied}
 use Rattle.sheets.specs.Replies.{replyTo}
@@ -41,6 +52,16 @@ use Rattle.codes.specs.Exported.{exported}
 -- an answer and what is left, two of each
 pub both-once : {A B : Type 0} {a b x : A} {u w y : B} → (a ≡ x) × (u ≡ y) → (b ≡ x) × (w ≡ y) → (a ≡ b) × (u ≡ w)
 both-once p q = (once (p .0) (q .0), once (p .1) (q .1))
+
+-- an answer and four tables that are left, two of each
+pub five-once : {A B : Type 0} {a b x : A} {v v′ y m m′ z o o′ w : List ℕ} {k k′ u : List B} →
+    (a ≡ x) × (v ≡ y) × (m ≡ z) × (o ≡ w) × (k ≡ u) → (b ≡ x) × (v′ ≡ y) × (m′ ≡ z) × (o′ ≡ w) × (k′ ≡ u) →
+    (a ≡ b) × (v ≡ v′) × (m ≡ m′) × (o ≡ o′) × (k ≡ k′)
+five-once p q = (once (p .0) (q .0), once (p .1) (q .1), once (p .2) (q .2), once (p .3) (q .3), once (p .4) (q .4))
+
+-- five facts that a contract nests, in a row
+in-a-row : {A B C D E : Type 0} → A × (B × (C × (D × E))) → A × B × C × D × E
+in-a-row p = (p .0, p .1 .0, p .1 .1 .0, p .1 .1 .1 .0, p .1 .1 .1 .1)
 
 -- READING (reader, records)
 
@@ -55,30 +76,35 @@ Reads s t a u =
 
 pub read-plan-once : (s : List ℕ) (t : Tables) {a b : PlanAnswer} {u w : Tables} → Reads s t a u → Reads s t b w →
     (a ≡ b) × (u .vcpus ≡ w .vcpus) × (u .mutexes ≡ w .mutexes) × (u .opens ≡ w .opens) × (u .tasks ≡ w .tasks)
-read-plan-once s t p q = (once (p .0) (q .0), once (p .1) (q .1), once (p .2) (q .2), once (p .3) (q .3), once (p .4) (q .4))
+read-plan-once s t = five-once
 
 -- the same into a slice of records
-abbrev ReadsSheet : List ℕ → List ℕ → List ℕ → List ℕ → List Task → PlanAnswer → List ℕ → List ℕ → List ℕ → List Task → Type 0
-ReadsSheet s vt mt ot ks a v m o k =
-    (a ≡ planAnswer s (tablesOf vt mt ot ks))
-    × (v ≡ tablesAfter s (tablesOf vt mt ot ks) .vcpus)
-    × (m ≡ tablesAfter s (tablesOf vt mt ot ks) .mutexes)
-    × (o ≡ tablesAfter s (tablesOf vt mt ot ks) .opens)
-    × (k ≡ sheetsAfter s vt mt ot ks)
-
 pub read-sheet-once : (s vt mt ot : List ℕ) (ks : List Task) {a b : PlanAnswer} {v v′ m m′ o o′ : List ℕ} {k k′ : List Task} →
-    ReadsSheet s vt mt ot ks a v m o k → ReadsSheet s vt mt ot ks b v′ m′ o′ k′ → (a ≡ b) × (v ≡ v′) × (m ≡ m′) × (o ≡ o′) × (k ≡ k′)
-read-sheet-once s vt mt ot ks p q = (once (p .0) (q .0), once (p .1) (q .1), once (p .2) (q .2), once (p .3) (q .3), once (p .4) (q .4))
+    ReadOut s vt mt ot ks a v m o k → ReadOut s vt mt ot ks b v′ m′ o′ k′ → (a ≡ b) × (v ≡ v′) × (m ≡ m′) × (o ≡ o′) × (k ≡ k′)
+read-sheet-once s vt mt ot ks p q = five-once (in-a-row p) (in-a-row q)
 
--- the line reader (scan): `line_at` and `next_line`, `new`, `line_number`
+-- line by line (`read_lines`), up to the first line with a fault
+abbrev ReadsLines : List ℕ → Tables → PlanAnswer → Tables → Type 0
+ReadsLines s t a u =
+    (a ≡ judgedFrom start blank 1 (pieces lf s))
+    × (u .vcpus ≡ linesLeft vcpuPut s (t .vcpus))
+    × (u .mutexes ≡ linesLeft mutexPut s (t .mutexes))
+    × (u .opens ≡ linesLeft openPut s (t .opens))
+    × (u .tasks ≡ linesLeft taskPut s (t .tasks))
+
+pub read-lines-once : (s : List ℕ) (t : Tables) {a b : PlanAnswer} {u w : Tables} → ReadsLines s t a u → ReadsLines s t b w →
+    (a ≡ b) × (u .vcpus ≡ w .vcpus) × (u .mutexes ≡ w .mutexes) × (u .opens ≡ w .opens) × (u .tasks ≡ w .tasks)
+read-lines-once s t = five-once
+
+-- the line reader (scan): `line_at` and `next_line`, `placed` (so also `moved`), `read_line`
 pub line-at-once : (s : List ℕ) (at : ℕ) {a b : Line} → a ≡ lineAt s at → b ≡ lineAt s at → a ≡ b
 line-at-once s at = once
 
-pub new-once : (s : RefT (List ℕ)) {a b : LineReader} → (a .src ≡ s) × (a .at ≡ 0) × (a .line ≡ 1) → (b .src ≡ s) × (b .at ≡ 0) × (b .line ≡ 1) → a ≡ b
-new-once s p q = λ i. record { src = once (p .0) (q .0) i; at = once (p .1) (q .1) i; line = once (p .2) (q .2) i }
+pub placed-once : (s : RefT (List ℕ)) (at n : ℕ) {a b : LineReader} → (a .src ≡ s) × (a .at ≡ at) × (a .line ≡ n) → (b .src ≡ s) × (b .at ≡ at) × (b .line ≡ n) → a ≡ b
+placed-once s at n p q = λ i. record { src = once (p .0) (q .0) i; at = once (p .1) (q .1) i; line = once (p .2) (q .2) i }
 
-pub line-number-once : (r : LineReader) {a b : ℕ} → a ≡ r .line → b ≡ r .line → a ≡ b
-line-number-once r = once
+pub read-line-once : (s : List ℕ) (at n : ℕ) {a b : Step} → a ≡ stepAt s at n → b ≡ stepAt s at n → a ≡ b
+read-line-once s at n = once
 
 -- QUESTIONS ABOUT LENT TABLES (given, entries, sheets)
 module _ (r : PlanRecord) (t : Tables) where
@@ -126,6 +152,12 @@ module _ (r : PlanRecord) (t : Tables) where
 
   pub show-once : (b : Board) (v n : ℕ) {a c : BoardAnswer} → a ≡ stepFor r t b (Show v n) .answer → c ≡ stepFor r t b (Show v n) .answer → a ≡ c
   show-once b v n = once
+
+-- the answers to events on a board (events), written into o or only counted
+pub answers-once : (on : Bool) (F : Facts) (b : Board) (s o : List ℕ) {m n : ℕ} {u w : List ℕ} →
+    (m ≡ length (answersOn F b s)) × (u ≡ toldInto on (answersOn F b s) o) → (n ≡ length (answersOn F b s)) × (w ≡ toldInto on (answersOn F b s) o) →
+    (m ≡ n) × (u ≡ w)
+answers-once on F b s o = both-once
 
 -- THE PROGRAMS' TEXTS (desk, exports), into a lent buffer o
 pub verdict-text-once : (s o : List ℕ) {a b : TextAnswer} {u w : List ℕ} →

@@ -18,13 +18,11 @@ use Rattle.search.specs.Search.{window, solve}
 use Rattle.search.specs.SearchLaws.{Answered, solve-answers}
 use Rattle.model.specs.declared.Refusal.{Refusal}
 use Rattle.model.specs.declared.Refusal.the-variants.{Foreign, Unknown}
-use Rattle.model.specs.Plan.{Vcpu, Lock, Task, Plan}
-use Rattle.model.specs.Valid.{Valid}
+use Rattle.model.specs.Plan.{Vcpu, Lock, Task}
 use Rattle.model.specs.Lookup.{hasVcpu, global}
 use Rattle.tables.specs.declared.PlanRecord.{PlanRecord}
 use Rattle.tables.specs.Layout.{Tables}
-use Rattle.tables.specs.Given.{Gives, planIn, isGiven}
-use Rattle.tables.specs.GivenLaws.{plan-given, given-exactly}
+use Rattle.tables.specs.Given.{planIn, isGiven}
 use Rattle.figures.specs.System.{System, system}
 use Rattle.figures.specs.Figures.{vcpuAt, higherTask, vcpuDemand, waitDemand, lengths, taskDemand, response}
 use Rattle.figures.specs.Named.{hasTask, taskAt, lockAt, hasSection}
@@ -40,10 +38,6 @@ use Rattle.entries.specs.Asked.{hasPlace, vcpuRowOf, waitRowOf, taskRowOf, resp
 -- the plan in lent tables
 abbrev pub planOf : PlanRecord → Tables → System
 planOf r t = system (planIn r t)
-
--- of tables that an accepted plan gives, the test for 9 says so, and the plan in them is that plan
-pub accepted-plan : {p : Plan} {r : PlanRecord} {t : Tables} → Valid p → Gives p r t → (isGiven r t ≡ true) × (planOf r t ≡ system p)
-accepted-plan {p} {r} {t} h g = (given-exactly r t .1 (p, h, g), ap system (plan-given h g))
 
 -- a response time is reported exactly when some number from zero to the limit is at least its demand, and it is the smallest such number
 pub record Reports (d : ℕ → ℕ) (limit : ℕ) (a : Answer) : Type 0 where

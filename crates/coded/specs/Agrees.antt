@@ -19,8 +19,9 @@ use Rattle.model.specs.Rules as known
 use Rattle.model.specs.Reading.{rules, fault, Passes, readingBy, reading}
 use Rattle.coded.specs.Coded.{Seen, coded, start, global, openings, slot}
 use Rattle.coded.specs.Same.{Same}
-use Rattle.coded.specs.SameLaws.{same-rule, same-learn, clear-tail}
+use Rattle.coded.specs.SameLaws.{same-rule, same-learn}
 use Rattle.model.specs.Simulated as simulated
+use Rattle.model.specs.JudgeLaws.{clear-rest}
 
 zeros : (n i : ℕ) → _≡_ {A = ℕ} (getD (replicate n 0) i 0) 0
 zeros zero i = refl
@@ -68,7 +69,7 @@ same-fault t s r i =
 pub same-next : (t : Known) (s : Seen) → Same t s → (i : Item) → fault rules t i ≡ Clear → Same (rules .next t i) (coded .next s i)
 unfolding fault
 same-next t s r i h =
-    same-learn (phase (i .kind)) r (i .kind) (i .nums) (clear-tail _ _ _ (clear-tail _ _ _ h))
+    same-learn (phase (i .kind)) r (i .kind) (i .nums) (clear-rest _ _ _ (clear-rest _ _ _ h))
 
 pub same-ready : (t : Known) (s : Seen) → Same t s → rules .ready t ≡ coded .ready s
 same-ready t s r = ap (λ q. eqb q 10) (r .phase-is)

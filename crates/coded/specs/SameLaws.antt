@@ -2,15 +2,13 @@
 use Prim.Native.Nat.{ℕ, _+_, _≤_, _<_}
 use mathlib.Core.Path.{_≡_, refl, ap, sym, _∙_}
 use mathlib.Core.List.{List}
-use mathlib.Core.Bool.{Bool, true, false, _&&_, and-true}
+use mathlib.Core.Bool.{true, _&&_, and-true}
 use native.Mathlib.Omega.{arith}
 use lib.Dec.{eqb, ltb}
 use borrow.Author.Tests.{ltb-true, lt-ltb, ne-eqb}
 use Rattle.laws.specs.BoolLaws.{both-left, both-right}
 use Rattle.model.specs.Limits.{maxV, maxGuest, maxCore, maxM, maxPeriod, maxTasks, maxLocks}
-use Rattle.model.specs.declared.Fault.{Fault}
 use Rattle.model.specs.declared.Fault.the-variants.{Clear}
-use Rattle.model.specs.declared.Refusal.{Refusal}
 use Rattle.model.specs.declared.Refusal.the-variants.{Range, Order}
 use Rattle.model.specs.Refusals.{unless}
 use Rattle.model.specs.declared.Kind.{Kind}
@@ -18,9 +16,11 @@ use Rattle.model.specs.declared.Kind.the-variants.{PlanLine, PolicyPO, PolicyPN
 use Rattle.model.specs.Plan.{Owner, Global, Local, Open}
 use Rattle.model.specs.Lookup.{isGlobal, isLocalTo}
 use Rattle.model.specs.Rules.{Known, within, nth, vcpuOf, vcpuFits, rule, moved, withMutex, learn}
+use Rattle.model.specs.JudgeLaws.{clear-test, clear-rest}
+use Rattle.model.specs.RuleLaws.{in-range}
 use Rattle.coded.specs.Coded.{Seen, global, bump, ranged, vcpuFault, mutexFault, openFault, guestFault, hostFault, taskFault, runFault, lockFault, ruled, afterVcpu, afterMutex, afterOpen, placed, seenBy}
 use Rattle.coded.specs.Same.{Same}
-use Rattle.coded.specs.TableLaws.{within-in, byte-small, vcpus-more, mutexes-more, opens-more}
+use Rattle.coded.specs.TableLaws.{byte-small, vcpus-more, mutexes-more, opens-more}
 
 -- THE SAME IS WRONG
 
@@ -52,16 +52,6 @@ same-rule r ShowLine ns = refl
 
 -- WHAT A LINE WITH NO FAULT SAYS
 
-pub clear-head : (b : Bool) (r : Refusal) (f : Fault) → unless b r f ≡ Clear → b ≡ true
-unfolding unless
-clear-head true r f h = refl
-clear-head false r f h = absurd (let z : _≡_ {A = ℕ} 0 1 = cc in omega arith)
-
-pub clear-tail : (b : Bool) (r : Refusal) (f : Fault) → unless b r f ≡ Clear → f ≡ Clear
-unfolding unless
-clear-tail true r f h = h
-clear-tail false r f h = absurd (let z : _≡_ {A = ℕ} 0 1 = cc in omega arith)
-
 bump-one : (n : ℕ) → n < maxTasks → bump n ≡ n + 1
 unfolding bump
 bump-one n h = rw (lt-ltb n maxTasks h)
@@ -90,11 +80,11 @@ module _ (q : ℕ) {t : Known} {s : Seen} (r : Same t s) where
   unfolding rule vcpuFits learn seenBy afterVcpu
   after-vcpu ns h =
       let x = vcpuOf ns in
-      let fits : vcpuFits x ≡ true = clear-head _ _ _ h in
+      let fits : vcpuFits x ≡ true = clear-test _ _ _ h in
       let later = both-right (within (x .v) 1 maxV) (within (x .guest) 1 maxGuest && (within (x .core) 0 maxCore && (within (x .period) 1 maxPeriod && within (x .budget) 1 (x .period)))) fits in
-      let a = within-in (x .v) 1 maxV (both-left (within (x .v) 1 maxV) _ fits) in
-      let b = within-in (x .guest) 1 maxGuest (both-left (within (x .guest) 1 maxGuest) _ later) in
-      let l : s .vcpu < x .v = ltb-true (s .vcpu) (x .v) (rw (r .vcpus .top-is) at (clear-head _ _ _ (clear-tail _ _ _ h))) in
+      let a = in-range (x .v) 1 maxV (both-left (within (x .v) 1 maxV) _ fits) in
+      let b = in-range (x .guest) 1 maxGuest (both-left (within (x .guest) 1 maxGuest) _ later) in
+      let l : s .vcpu < x .v = ltb-true (s .vcpu) (x .v) (rw (r .vcpus .top-is) at (clear-test _ _ _ (clear-rest _ _ _ h))) in
       record {
         phase-is = refl;
         vcpus = rw (byte-small (x .guest) (omega arith)) (vcpus-more (r .vcpus) x (a .0) (a .1) (b .0) (b .1) l);
@@ -127,19 +117,19 @@ module _ (q : ℕ) {t : Known} {s : Seen} (r : Same t s) where
   after-global : (ns : List ℕ) → rule t MutexG ns ≡ Clear → Same (learn q t MutexG ns) (seenBy q s MutexG ns)
   unfolding rule learn seenBy
   after-global ns h =
-      let a = within-in (nth 0 ns) 1 maxM (clear-head _ _ _ h) in
-      let l : s .mutex < nth 0 ns = ltb-true (s .mutex) (nth 0 ns) (rw (r .mutexes .top-is) at (clear-head _ _ _ (clear-tail _ _ _ h))) in
+      let a = in-range (nth 0 ns) 1 maxM (clear-test _ _ _ h) in
+      let l : s .mutex < nth 0 ns = ltb-true (s .mutex) (nth 0 ns) (rw (r .mutexes .top-is) at (clear-test _ _ _ (clear-rest _ _ _ h))) in
       mutex-after (nth 0 ns) global Global (a .1) l (omega arith) (omega arith) refl (λ v. refl)
 
   after-local : (ns : List ℕ) → rule t MutexL ns ≡ Clear → Same (learn q t MutexL ns) (seenBy q s MutexL ns)
   unfolding rule learn seenBy
   after-local ns h =
       let w = nth 1 ns in
-      let fits : ranged (nth 0 ns) maxM w maxV ≡ true = clear-head _ _ _ h in
-      let a = within-in (nth 0 ns) 1 maxM (both-left (within (nth 0 ns) 1 maxM) (within w 1 maxV) fits) in
+      let fits : ranged (nth 0 ns) maxM w maxV ≡ true = clear-test _ _ _ h in
+      let a = in-range (nth 0 ns) 1 maxM (both-left (within (nth 0 ns) 1 maxM) (within w 1 maxV) fits) in
       let ok : within w 1 maxV ≡ true = both-right (within (nth 0 ns) 1 maxM) (within w 1 maxV) fits in
-      let b = within-in w 1 maxV ok in
-      let l : s .mutex < nth 0 ns = ltb-true (s .mutex) (nth 0 ns) (rw (r .mutexes .top-is) at (clear-head _ _ _ (clear-tail _ _ _ h))) in
+      let b = in-range w 1 maxV ok in
+      let l : s .mutex < nth 0 ns = ltb-true (s .mutex) (nth 0 ns) (rw (r .mutexes .top-is) at (clear-test _ _ _ (clear-rest _ _ _ h))) in
       mutex-after (nth 0 ns) w (Local w) (a .1) l (b .0) (omega arith) (sym (ne-eqb w global (λ e. omega arith))) (λ v. sym (ap (λ x. x && eqb w v) ok))
 
   after-open : (ns : List ℕ) → rule t OpenLine ns ≡ Clear → Same (learn q t OpenLine ns) (seenBy q s OpenLine ns)
@@ -150,7 +140,7 @@ module _ (q : ℕ) {t : Known} {s : Seen} (r : Same t s) where
         phase-is = refl;
         vcpus = r .vcpus;
         mutexes = r .mutexes;
-        opens = opens-more (r .opens) x (clear-head _ _ _ h);
+        opens = opens-more (r .opens) x (clear-test _ _ _ h);
         guest-is = r .guest-is;
         v-is = r .v-is;
         n-is = r .n-is;
@@ -168,13 +158,13 @@ module _ (q : ℕ) {t : Known} {s : Seen} (r : Same t s) where
   after-task : (ns : List ℕ) → rule t TaskLine ns ≡ Clear → Same (learn q t TaskLine ns) (seenBy q s TaskLine ns)
   unfolding rule learn seenBy
   after-task ns h =
-      let few = clear-head _ _ _ (clear-tail _ _ _ (clear-tail _ _ _ (clear-tail _ _ _ (clear-tail _ _ _ h)))) in
+      let few = clear-test _ _ _ (clear-rest _ _ _ (clear-rest _ _ _ (clear-rest _ _ _ (clear-rest _ _ _ h)))) in
       placed-same (r .guest-is) refl refl (more-is (r .tasks-is) (ltb-true (t .tasks) maxTasks few)) refl
 
   after-lock : (ns : List ℕ) → rule t LockLine ns ≡ Clear → Same (learn q t LockLine ns) (seenBy q s LockLine ns)
   unfolding rule learn seenBy
   after-lock ns h =
-      let few : t .locks < maxLocks = ltb-true (t .locks) maxLocks (clear-head _ _ _ (clear-tail _ _ _ (clear-tail _ _ _ (clear-tail _ _ _ h)))) in
+      let few : t .locks < maxLocks = ltb-true (t .locks) maxLocks (clear-test _ _ _ (clear-rest _ _ _ (clear-rest _ _ _ (clear-rest _ _ _ h)))) in
       placed-same (r .guest-is) (r .v-is) (r .n-is) (r .tasks-is) (more-is (r .locks-is) (omega arith))
 
   pub same-learn : (k : Kind) (ns : List ℕ) → rule t k ns ≡ Clear → Same (learn q t k ns) (seenBy q s k ns)

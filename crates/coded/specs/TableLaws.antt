@@ -7,7 +7,7 @@ use native.Mathlib.Omega.{arith}
 use lib.Dec.{eqb, leb}
 use lib.ListN.{length, getD, set, length-set}
 use lib.Seq.{getD-set-same, getD-set-other}
-use borrow.Author.Tests.{eqb-true, eqb-false, eq-eqb, ne-eqb, leb-true, le-leb, lt-ltb}
+use borrow.Author.Tests.{eqb-true, eqb-false, eq-eqb, ne-eqb, le-leb, lt-ltb}
 use Rattle.laws.specs.BoolLaws.{both, both-left, both-right, either-right, miss-left, miss-right}
 use Rattle.laws.specs.Sums.{any}
 use Rattle.laws.specs.SumLaws.{any-append}
@@ -15,20 +15,15 @@ use Rattle.model.specs.Limits.{maxV, maxGuest, maxM}
 use Rattle.model.specs.Plan.{Vcpu, Owner, Mutex, Open}
 use Rattle.model.specs.Lookup.{hasVcpu, isVcpuOf, hasGuest, isGlobal, isLocalTo, hasMutex, localTo, opened}
 use Rattle.model.specs.Lookup as lookup
-use Rattle.model.specs.Rules.{within, last}
+use Rattle.model.specs.Rules.{within}
+use Rattle.model.specs.RuleLaws.{in-range}
+use Rattle.model.specs.ListLaws.{last-append}
 use Rattle.coded.specs.Coded.{byte, global, openings, ranged, slot}
 use Rattle.coded.specs.Same.{VcpusSame, MutexesSame, OpensSame}
-
-pub within-in : (x lo hi : ℕ) → within x lo hi ≡ true → (lo ≤ x) × (x ≤ hi)
-within-in x lo hi h = (leb-true lo x (both-left (leb lo x) (leb x hi) h), leb-true x hi (both-right (leb lo x) (leb x hi) h))
 
 any-one : {A : Type 0} (f : A → Bool) (xs : List A) (x : A) → any f (xs ++ (x ∷ [])) ≡ (any f xs || f x)
 unfolding any
 any-one f xs x = any-append f xs (x ∷ []) ∙ ap (λ b. any f xs || b) (or-false (f x))
-
-last-one : {A : Type 0} (d : A) (xs : List A) (x : A) → last d (xs ++ (x ∷ [])) ≡ x
-last-one d [] x = refl
-last-one d (y ∷ xs) x = last-one y xs x
 
 -- a lookup of k in rows is a test of the number at key k: so it stays, where the test of e at j says what the new row says
 module _ {A : Type 0} (f : ℕ → A → Bool) (h : ℕ → ℕ → Bool) (key : ℕ → ℕ) where
@@ -69,7 +64,7 @@ module _ {vs : List Vcpu} {gs hs : List ℕ} {top : ℕ} (s : VcpusSame vs gs hs
       record {
         long = length-set gs (r .v) (r .guest) ∙ s .long;
         broad = length-set hs (r .guest) 1 ∙ s .broad;
-        top-is = ap (λ (x : Vcpu). x .v) (last-one _ vs r);
+        top-is = ap (λ (x : Vcpu). x .v) (last-append _ r vs);
         has =
             table-more (λ v x. eqb (x .v) v) (λ v e. leb 1 e) (λ v. v) gs vs r (r .v) (r .guest) (s .has) room
             (λ k e. either-right (leb 1 (getD gs (r .v) 0)) (eqb (r .v) k) (eq-eqb (r .v) k (sym e)) ∙ sym (le-leb 1 (r .guest) g₁)) (λ k n. ne-eqb (r .v) k (λ q. n (sym q)));
@@ -95,7 +90,7 @@ module _ {ms : List Mutex} {os : List ℕ} {top : ℕ} (s : MutexesSame ms os to
       let room : m < length os = omega (arith, s .long) in
       record {
         long = length-set os m e ∙ s .long;
-        top-is = ap (λ (y : Mutex). y .m) (last-one _ ms x);
+        top-is = ap (λ (y : Mutex). y .m) (last-append _ x ms);
         has =
             table-more (λ n y. eqb (y .m) n) (λ n d. leb 1 d) (λ n. n) os ms x m e (s .has) room
             (λ k q. either-right (leb 1 (getD os m 0)) (eqb m k) (eq-eqb m k (sym q)) ∙ sym (le-leb 1 e p)) (λ k n. ne-eqb m k (λ q. n (sym q)));
@@ -120,7 +115,7 @@ slot-out m g h = rw h
 
 pub ranged-in : (x hi y top : ℕ) → ranged x hi y top ≡ true → ((1 ≤ x) × (x ≤ hi)) × ((1 ≤ y) × (y ≤ top))
 ranged-in x hi y top h =
-    (within-in x 1 hi (both-left (within x 1 hi) (within y 1 top) h), within-in y 1 top (both-right (within x 1 hi) (within y 1 top) h))
+    (in-range x 1 hi (both-left (within x 1 hi) (within y 1 top) h), in-range y 1 top (both-right (within x 1 hi) (within y 1 top) h))
 
 slot-same : (m g k h : ℕ) → ranged m maxM g maxGuest ≡ true → slot k h ≡ slot m g → (m ≡ k) × (g ≡ h)
 slot-same m g k h l q = go (ranged k maxM h maxGuest) refl (q ∙ slot-in m g l) (ranged-in m maxM g maxGuest l)
@@ -143,8 +138,8 @@ module _ {os : List Open} {ps : List ℕ} {a b : ℕ} (s : OpensSame os ps a b) 
       let room : slot (r .m) (r .guest) < length ps = rw (slot-in (r .m) (r .guest) h, s .long) (omega arith) in
       record {
         long = length-set ps (slot (r .m) (r .guest)) 1 ∙ s .long;
-        m-is = ap (λ (y : Open). y .m) (last-one _ os r);
-        guest-is = ap (λ (y : Open). y .guest) (last-one _ os r);
+        m-is = ap (λ (y : Open). y .m) (last-append _ r os);
+        guest-is = ap (λ (y : Open). y .guest) (last-append _ r os);
         has =
             λ g.
             table-more (λ m y. eqb (y .m) m && eqb (y .guest) g) (λ m e. eqb e 1) (λ m. slot m g) ps os r (slot (r .m) (r .guest)) 1 (s .has g) room

@@ -1,3 +1,2 @@
-pub mod Ample
 pub mod Read
 pub mod Told

@@ -19,23 +19,19 @@ use Rattle.tallies.specs.Tally as tallies
 use Rattle.reader.specs.declared.PlanAnswer.{PlanAnswer}
 use Rattle.reader.specs.declared.PlanAnswer.the-variants.{Accepted, Refused}
 use Rattle.reader.specs.Into.{answerInto, planAnswer, tablesAfter}
+use Rattle.reader.specs.Judged.{isAccepted}
 use Rattle.reader.specs.Claims.{accepted-gives, accepted-given}
 use Rattle.figures.specs.System.{system}
 use Rattle.figures.specs.Tabled.{systemIn, Fit}
 use Rattle.checker.specs.FitLaws.{given-fit, system-in}
-use Rattle.desk.specs.Ample.{Ample, ample-roomy}
+use Rattle.reader.specs.Ample.{Ample, ample-roomy}
 
 -- AN ANSWER TAKEN APART
-abbrev pub isAccepted : PlanAnswer → Bool
-isAccepted (Accepted r) = true
-isAccepted (Refused x l) = false
-
--- the record of an accepted plan; of a refused one a record without rows
 abbrev pub recordIn : PlanAnswer → PlanRecord
 recordIn (Accepted r) = r
 recordIn (Refused x l) = tallies.recordIn tallies.blank
 
--- the refusal and the line of a refused plan
+-- the refusal and the line of a refused plan (Shape and 0 for an accepted one)
 abbrev pub refusalIn : PlanAnswer → Refusal
 refusalIn (Accepted r) = Shape
 refusalIn (Refused x l) = x

@@ -9,37 +9,60 @@ use lib.ListN.{length}
 use Rattle.model.specs.Limits.{maxInput}
 use Rattle.model.specs.declared.Refusal.{Refusal}
 use Rattle.model.specs.declared.Refusal.the-variants.{Room}
-use Rattle.model.specs.Reading.{Reading, Accepts, Refuses, reading}
+use Rattle.model.specs.Plan.{Plan}
+use Rattle.model.specs.Reading.{Reading, reading}
 use Rattle.tables.specs.declared.PlanRecord.{PlanRecord}
 use Rattle.tables.specs.Layout.{Tables}
 use Rattle.tables.specs.Given.{planIn, isGiven}
+use Rattle.filler.specs.Fill.{vcpuPut, mutexPut, openPut, taskPut}
 use Rattle.reader.specs.declared.PlanAnswer.{PlanAnswer}
 use Rattle.reader.specs.declared.PlanAnswer.the-variants.{Accepted, Refused}
 use Rattle.reader.specs.Into.{planAnswer, tablesAfter}
+use Rattle.reader.specs.Judged.{isAccepted, linesLeft}
+use Rattle.reader.specs.Ample.{Ample, accepted-left}
 use Rattle.figures.specs.System.{system}
-use Rattle.figures.specs.Tabled.{systemIn, Fit}
+use Rattle.figures.specs.Tabled.{systemIn}
 use Rattle.listing.specs.Listing.{listing, refusedLine, readText, verdictText}
 use Rattle.lockboard.specs.Facts.{factsOf}
 use Rattle.lockboard.specs.Events.{eventsText, boardText}
 use Rattle.writers.specs.declared.TextAnswer.{TextAnswer}
 use Rattle.writers.specs.Into.{textAnswer, textAfter}
-use Rattle.desk.specs.Ample.{Ample}
-use Rattle.desk.specs.Read.{isAccepted, recordIn, refusalIn, lineIn, accepted-is, refused-is, Lies, accepted-lies, refused-reads}
+use Rattle.desk.specs.Read.{recordIn, refusalIn, lineIn, accepted-is, refused-is, Lies, accepted-lies, refused-reads}
 use Rattle.rooms.specs.Boarded.{answersFor}
 
--- of an accepted plan its listing, or the answers to events; of a refused one its line
-abbrev pub listingOr : PlanAnswer → Tables → List ℕ
-listingOr (Accepted r) t = listing (systemIn r (t .vcpus) (t .mutexes) (t .tasks))
-listingOr (Refused x l) t = refusedLine x l
+-- of a plan in tables, the answers to events where `on`, else its listing
+abbrev pub toldIn : Bool → PlanRecord → Tables → List ℕ → List ℕ
+toldIn true r t es = answersFor (factsOf (system (planIn r t))) es
+toldIn false r t es = listing (systemIn r (t .vcpus) (t .mutexes) (t .tasks))
 
-abbrev pub answersOr : PlanAnswer → Tables → List ℕ → List ℕ
-answersOr (Accepted r) t es = answersFor (factsOf (system (planIn r t))) es
-answersOr (Refused x l) t es = refusedLine x l
+-- the same of an accepted plan; of a refused one its line
+abbrev pub toldOr : Bool → PlanAnswer → Tables → List ℕ → List ℕ
+toldOr on (Accepted r) t es = toldIn on r t es
+toldOr on (Refused x l) t es = refusedLine x l
+
+-- the same of a reading
+abbrev pub textFor : Bool → Reading → List ℕ → List ℕ
+textFor true r es = eventsText r es
+textFor false r es = readText r
+
+-- written into a buffer
+abbrev Printed : List ℕ → List ℕ → TextAnswer → List ℕ → Type 0
+Printed t o b p = (b ≡ textAnswer t o) × (p ≡ textAfter t o)
+
+as-printed : {t u : List ℕ} (o : List ℕ) {b : TextAnswer} {p : List ℕ} → u ≡ t → Printed t o b p → Printed u o b p
+as-printed o e w = rw e w
+
+-- as code finds out which is asked
+module _ {on : Bool} (r : PlanRecord) (t : Tables) (es o : List ℕ) {b : TextAnswer} {p : List ℕ} where
+  pub answers-told : on ≡ true → Printed (answersFor (factsOf (system (planIn r t))) es) o b p → Printed (toldIn on r t es) o b p
+  answers-told h w = rw h w
+
+  pub listing-told : on ≡ false → Printed (listing (systemIn r (t .vcpus) (t .mutexes) (t .tasks))) o b p → Printed (toldIn on r t es) o b p
+  listing-told h w = rw h w
 
 -- the tables of an accepted plan pass the test for 9
 pub record Sure (a : PlanAnswer) (t : Tables) : Type 0 where
   pub given : (r : PlanRecord) → a ≡ Accepted r → isGiven r t ≡ true
-  pub fit : (r : PlanRecord) → a ≡ Accepted r → Fit r (t .vcpus) (t .mutexes) (t .tasks)
 
 -- as code finds out
 module _ {a : PlanAnswer} {t : Tables} (s : Sure a t) {x : Bool} (h : x ≡ isAccepted a) where
@@ -50,82 +73,57 @@ module _ {a : PlanAnswer} {t : Tables} (s : Sure a t) {x : Bool} (h : x ≡ isAc
     pub told-given : isGiven r t ≡ true
     told-given = s .given r told-is
 
-    pub told-fit : Fit r (t .vcpus) (t .mutexes) (t .tasks)
-    told-fit = s .fit r told-is
+    pub told-text : (on : Bool) (es o : List ℕ) {b : TextAnswer} {p : List ℕ} → Printed (toldIn on r t es) o b p → Printed (toldOr on a t es) o b p
+    told-text on es o w = rw told-is w
 
-    pub told-listing : (o : List ℕ) {b : TextAnswer} {p : List ℕ} →
-        (b ≡ textAnswer (listing (systemIn r (t .vcpus) (t .mutexes) (t .tasks))) o) × (p ≡ textAfter (listing (systemIn r (t .vcpus) (t .mutexes) (t .tasks))) o) →
-        (b ≡ textAnswer (listingOr a t) o) × (p ≡ textAfter (listingOr a t) o)
-    told-listing o w = rw told-is w
+  pub untold-text :
+      (e : x ≡ false) {y : Refusal} {l : ℕ} (k : y ≡ refusalIn a) (m : l ≡ lineIn a) (on : Bool) (es o : List ℕ) {b : TextAnswer} {p : List ℕ} →
+      Printed (refusedLine y l) o b p → Printed (toldOr on a t es) o b p
+  untold-text e {y} {l} k m on es o w =
+      let q : a ≡ Refused y l = refused-is a (sym h ∙ e) ∙ rw (k, m) in
+      rw q w
 
-    pub told-answers : (es o : List ℕ) {b : TextAnswer} {p : List ℕ} →
-        (b ≡ textAnswer (answersFor (factsOf (system (planIn r t))) es) o) × (p ≡ textAfter (answersFor (factsOf (system (planIn r t))) es) o) →
-        (b ≡ textAnswer (answersOr a t es) o) × (p ≡ textAfter (answersOr a t es) o)
-    told-answers es o w = rw told-is w
+-- of a reading into tables with room for every plan: what it answers, and the rows that its lines leave
+module _ (s : List ℕ) {vt mt ot ts : List ℕ} (l : Ample (record { vcpus = vt; mutexes = mt; opens = ot; tasks = ts })) {a : PlanAnswer} {vu mu ou tu : List ℕ}
+    (h : a ≡ planAnswer s (record { vcpus = vt; mutexes = mt; opens = ot; tasks = ts })) (v : vu ≡ linesLeft vcpuPut s vt) (m : mu ≡ linesLeft mutexPut s mt)
+    (o : ou ≡ linesLeft openPut s ot) (k : tu ≡ linesLeft taskPut s ts) where
+  abbrev lent : Tables
+  lent = record { vcpus = vt; mutexes = mt; opens = ot; tasks = ts }
 
-  module _ (e : x ≡ false) {y : Refusal} {l : ℕ} (k : y ≡ refusalIn a) (m : l ≡ lineIn a) where
-    untold-is : a ≡ Refused y l
-    untold-is = refused-is a (sym h ∙ e) ∙ rw (k, m)
+  abbrev left : Tables
+  left = record { vcpus = vu; mutexes = mu; opens = ou; tasks = tu }
 
-    pub untold-listing : (o : List ℕ) {b : TextAnswer} {p : List ℕ} →
-        (b ≡ textAnswer (refusedLine y l) o) × (p ≡ textAfter (refusedLine y l) o) → (b ≡ textAnswer (listingOr a t) o) × (p ≡ textAfter (listingOr a t) o)
-    untold-listing o w = rw untold-is w
+  left-is : (r : PlanRecord) → a ≡ Accepted r → left ≡ tablesAfter s lent
+  left-is r e =
+      let w : _≡_ {A = Tables} left (record { vcpus = linesLeft vcpuPut s vt; mutexes = linesLeft mutexPut s mt; opens = linesLeft openPut s ot; tasks = linesLeft taskPut s ts }) =
+      λ i. record { vcpus = v i; mutexes = m i; opens = o i; tasks = k i } in
+      w ∙ accepted-left s lent r (sym h ∙ e)
 
-    pub untold-answers : (es o : List ℕ) {b : TextAnswer} {p : List ℕ} →
-        (b ≡ textAnswer (refusedLine y l) o) × (p ≡ textAfter (refusedLine y l) o) → (b ≡ textAnswer (answersOr a t es) o) × (p ≡ textAfter (answersOr a t es) o)
-    untold-answers es o w = rw untold-is w
+  left-lies : (r : PlanRecord) → a ≡ Accepted r → (p : Plan) × Lies s r left p
+  left-lies r e = rw (left-is r e) (accepted-lies s lent l r (sym h ∙ e))
 
--- of a reading into tables with room for every plan
-module _ (s : List ℕ) (t : Tables) (a : Ample t) where
-  pub read-sure : Sure (planAnswer s t) (tablesAfter s t)
-  read-sure = record { given = λ r e. accepted-lies s t a r e .1 .given; fit = λ r e. accepted-lies s t a r e .1 .fit }
+  pub left-sure : Sure a left
+  left-sure = record { given = λ r e. left-lies r e .1 .given }
 
-  read-listing : (x : PlanAnswer) → planAnswer s t ≡ x → listingOr x (tablesAfter s t) ≡ readText (reading s)
-  read-listing (Accepted r) e = let w = accepted-lies s t a r e in ap listing (w .1 .holds) ∙ ap readText (sym (w .1 .reads))
-  read-listing (Refused x l) e = ap readText (sym (refused-reads s t a x l e))
-
-  pub read-verdict : listingOr (planAnswer s t) (tablesAfter s t) ≡ readText (reading s)
-  read-verdict = read-listing (planAnswer s t) refl
-
-  read-answers : (x : PlanAnswer) → planAnswer s t ≡ x → (es : List ℕ) → answersOr x (tablesAfter s t) es ≡ eventsText (reading s) es
+  accepted-told : (on : Bool) (es : List ℕ) (r : PlanRecord) → a ≡ Accepted r → toldIn on r left es ≡ textFor on (reading s) es
   unfolding answersFor
-  read-answers (Accepted r) e es = let w = accepted-lies s t a r e in ap (λ p. answersFor (factsOf (system p)) es) (w .1 .is) ∙ ap (λ x. eventsText x es) (sym (w .1 .reads))
-  read-answers (Refused x l) e es = ap (λ x. eventsText x es) (sym (refused-reads s t a x l e))
+  accepted-told true es r e =
+      let w = left-lies r e in
+      ap (λ p. answersFor (factsOf (system p)) es) (w .1 .is) ∙ ap (λ x. eventsText x es) (sym (w .1 .reads))
+  accepted-told false es r e =
+      let w = left-lies r e in
+      ap listing (w .1 .holds) ∙ ap readText (sym (w .1 .reads))
 
-  pub read-events : (es : List ℕ) → answersOr (planAnswer s t) (tablesAfter s t) es ≡ eventsText (reading s) es
-  read-events es = read-answers (planAnswer s t) refl es
+  refused-told : (on : Bool) (es : List ℕ) (x : Refusal) (n : ℕ) → a ≡ Refused x n → refusedLine x n ≡ textFor on (reading s) es
+  refused-told true es x n e = ap (λ x. eventsText x es) (sym (refused-reads s lent l x n (sym h ∙ e)))
+  refused-told false es x n e = ap readText (sym (refused-reads s lent l x n (sym h ∙ e)))
 
--- the same, of what a call of `read_plan` hands back
-pub record Lent (vt mt ot ts : List ℕ) : Type 0 where
-  pub ample : Ample (record { vcpus = vt; mutexes = mt; opens = ot; tasks = ts })
+  left-told : (on : Bool) (es : List ℕ) (z : PlanAnswer) → a ≡ z → toldOr on z left es ≡ textFor on (reading s) es
+  left-told on es (Accepted r) e = accepted-told on es r e
+  left-told on es (Refused x n) e = refused-told on es x n e
 
-module _ (s : List ℕ) {vt mt ot ts : List ℕ} (l : Lent vt mt ot ts) {a : PlanAnswer} {vu mu ou tu : List ℕ}
-    (h : a ≡ planAnswer s (record { vcpus = vt; mutexes = mt; opens = ot; tasks = ts }))
-    (v : vu ≡ tablesAfter s (record { vcpus = vt; mutexes = mt; opens = ot; tasks = ts }) .vcpus)
-    (m : mu ≡ tablesAfter s (record { vcpus = vt; mutexes = mt; opens = ot; tasks = ts }) .mutexes)
-    (o : ou ≡ tablesAfter s (record { vcpus = vt; mutexes = mt; opens = ot; tasks = ts }) .opens)
-    (k : tu ≡ tablesAfter s (record { vcpus = vt; mutexes = mt; opens = ot; tasks = ts }) .tasks) where
-  same : _≡_ {A = Tables} (record { vcpus = vu; mutexes = mu; opens = ou; tasks = tu }) (tablesAfter s (record { vcpus = vt; mutexes = mt; opens = ot; tasks = ts }))
-  same = λ i. record { vcpus = v i; mutexes = m i; opens = o i; tasks = k i }
-
-  pub left-sure : Sure a (record { vcpus = vu; mutexes = mu; opens = ou; tasks = tu })
-  left-sure = rw (same, h) (read-sure s _ (l .ample))
-
-  pub left-verdict : (w : List ℕ) {b : TextAnswer} {p : List ℕ} →
-      (b ≡ textAnswer (listingOr a (record { vcpus = vu; mutexes = mu; opens = ou; tasks = tu })) w)
-      × (p ≡ textAfter (listingOr a (record { vcpus = vu; mutexes = mu; opens = ou; tasks = tu })) w) →
-      (b ≡ textAnswer (readText (reading s)) w) × (p ≡ textAfter (readText (reading s)) w)
-  left-verdict w z =
-      let e : listingOr a (record { vcpus = vu; mutexes = mu; opens = ou; tasks = tu }) ≡ readText (reading s) = ap₂ listingOr h same ∙ read-verdict s _ (l .ample) in
-      (z .0 ∙ ap (λ x. textAnswer x w) e, z .1 ∙ ap (λ x. textAfter x w) e)
-
-  pub left-events : (es w : List ℕ) {b : TextAnswer} {p : List ℕ} →
-      (b ≡ textAnswer (answersOr a (record { vcpus = vu; mutexes = mu; opens = ou; tasks = tu }) es) w)
-      × (p ≡ textAfter (answersOr a (record { vcpus = vu; mutexes = mu; opens = ou; tasks = tu }) es) w) →
-      (b ≡ textAnswer (eventsText (reading s) es) w) × (p ≡ textAfter (eventsText (reading s) es) w)
-  left-events es w z =
-      let e : answersOr a (record { vcpus = vu; mutexes = mu; opens = ou; tasks = tu }) es ≡ eventsText (reading s) es = ap₂ (λ x y. answersOr x y es) h same ∙ read-events s _ (l .ample) es in
-      (z .0 ∙ ap (λ x. textAnswer x w) e, z .1 ∙ ap (λ x. textAfter x w) e)
+  pub left-text : (on : Bool) (es w : List ℕ) {b : TextAnswer} {p : List ℕ} → Printed (toldOr on a left es) w b p → Printed (textFor on (reading s) es) w b p
+  left-text on es w z = as-printed w (sym (left-told on es a refl)) z
 
 -- SIZES
 -- above 65,536 bytes an input is not judged: what is printed of two inputs, by the tests of their sizes
@@ -155,13 +153,6 @@ large-verdict s h = rw (lt-ltb maxInput (length s) h, verdictText)
 small-verdict : (s : List ℕ) → length s ≤ maxInput → verdictText s ≡ readText (reading s)
 unfolding verdictText
 small-verdict s h = rw (le-ltb maxInput (length s) h, verdictText)
-
--- written into a buffer
-abbrev Printed : List ℕ → List ℕ → TextAnswer → List ℕ → Type 0
-Printed t o b p = (b ≡ textAnswer t o) × (p ≡ textAfter t o)
-
-as-printed : {t u : List ℕ} (o : List ℕ) {b : TextAnswer} {p : List ℕ} → u ≡ t → Printed t o b p → Printed u o b p
-as-printed o e w = rw e w
 
 module _ (s es o : List ℕ) {b : TextAnswer} {p : List ℕ} where
   pub plan-printed : maxInput < length s → Printed (refusedLine Room 0) o b p → Printed (boardText s es) o b p

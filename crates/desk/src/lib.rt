@@ -13,27 +13,17 @@ ghost use lib.ListN.{length};
 ghost use Rattle.model.specs.Reading.{reading};
 ghost use Rattle.tables.specs.Given.{planIn, isGiven};
 ghost use Rattle.figures.specs.System.{system};
-ghost use Rattle.listing.specs.Listing.{refusedLine, readText, verdictText};
+ghost use Rattle.listing.specs.Listing.{refusedLine, verdictText};
 ghost use Rattle.lockboard.specs.Facts.{factsOf};
 ghost use Rattle.lockboard.specs.View.{factsIn};
-ghost use Rattle.lockboard.specs.Events.{eventsText, boardText};
+ghost use Rattle.lockboard.specs.Events.{boardText};
 ghost use Rattle.letters.specs.Wrote.{Wrote};
 ghost use Rattle.writers.specs.Into.{textAnswer, textAfter, bytesIn};
 ghost use Rattle.writers.specs.IntoLaws.{RoomFor};
-ghost use Rattle.desk.specs.Read.{isAccepted, recordIn, refusalIn, lineIn};
-ghost use Rattle.desk.specs.Told.{Sure, listingOr, answersOr};
+ghost use Rattle.desk.specs.Read.{recordIn, refusalIn, lineIn};
+ghost use Rattle.desk.specs.Told.{Sure, toldIn, toldOr, textFor};
 ghost use Rattle.rooms.specs.Whole.{verdictBytes, boardBytes, Counted};
 ghost use Rattle.rooms.specs.Boarded.{answersOn, answersFor};
-
-// Is the plan accepted?
-fn is_accepted(a: PlanAnswer) -> bool
-    ensures { λ x. ⌜ x ≡ isAccepted a ⌝ }
-{
-    match a {
-        PlanAnswer::Accepted(_) => true,
-        PlanAnswer::Refused { number: _, line: _ } => false,
-    }
-}
 
 // The record of an accepted plan; of a refused one a record without rows.
 fn record_in(a: PlanAnswer) -> PlanRecord
@@ -77,22 +67,23 @@ fn refusal_text(x: Refusal, l: u64, out: &mut [u8]) -> TextAnswer
     TextAnswer::Written(n)
 }
 
-// Do the answers to the events of src fit into so much room?
+// Do the answers to the events of src fit into the buffer? It stays as it was lent.
 fn answers_fit(
     b: Board,
     policy: Policy,
     choice: OverrunChoice,
     view: &[u64],
     src: &[u8],
-    room: usize,
+    out: &mut [u8],
 ) -> bool
     requires { ⌜ (length (now src) ≤ 65536) × (length (answersOn (factsIn policy choice (now view)) b (now src)) ≤ 10 * length (now src)) ⌝ }
-    ensures { λ x. ⌜ RoomFor (answersOn (factsIn policy choice (now (view .entry))) b (now (src .entry))) room x ⌝ }
+    ensures { λ x. ⌜ RoomFor (answersOn (factsIn policy choice (now (view .entry))) b (now (src .entry))) (length (now (out .entry))) x ⌝ }
+    ensures { λ x. ⌜ now (out .exit) ≡ now (out .entry) ⌝ }
 {
-    if 10 * src.len() <= room {
+    if 10 * src.len() <= out.len() {
         return true;
     }
-    events::answers_size(b, policy, choice, view, src) <= room
+    events::answers(false, b, policy, choice, view, src, out) <= out.len()
 }
 
 // Writes the answers to the events of src from board b on; with too little room 8, and the buffer as it was lent.
@@ -108,8 +99,8 @@ fn answers_from(
     ensures { λ a. ⌜ a ≡ textAnswer (answersOn (factsIn policy choice (now (view .entry))) b (now (src .entry))) (now (out .entry)) ⌝ }
     ensures { λ a. ⌜ now (out .exit) ≡ textAfter (answersOn (factsIn policy choice (now (view .entry))) b (now (src .entry))) (now (out .entry)) ⌝ }
 {
-    if answers_fit(b, policy, choice, view, src, out.len()) {
-        let n = events::put_answers(b, policy, choice, view, src, out);
+    if answers_fit(b, policy, choice, view, src, out) {
+        let n = events::answers(true, b, policy, choice, view, src, out);
         return TextAnswer::Written(n);
     }
     TextAnswer::Refused(Refusal::Room)
@@ -137,8 +128,30 @@ fn answers_into(
     answers_from(b, policy, choice, &view, src, out)
 }
 
-// Writes the answers to events for an accepted plan, or the line of a refused one.
-fn answers_or(
+// Writes, for the plan in tables that passed the test for 9, the answers to the events of src where `on`, else its listing.
+fn text_into(
+    on: bool,
+    r: PlanRecord,
+    vt: &[u64],
+    mt: &[u64],
+    ot: &[u64],
+    ts: &[u64],
+    src: &[u8],
+    out: &mut [u8],
+) -> TextAnswer
+    requires { ⌜ (isGiven r (record { vcpus = now vt; mutexes = now mt; opens = now ot; tasks = now ts }) ≡ true) × (length (now src) ≤ 65536) ⌝ }
+    ensures { λ a. ⌜ a ≡ textAnswer (toldIn on r (record { vcpus = now (vt .entry); mutexes = now (mt .entry); opens = now (ot .entry); tasks = now (ts .entry) }) (now (src .entry))) (now (out .entry)) ⌝ }
+    ensures { λ a. ⌜ now (out .exit) ≡ textAfter (toldIn on r (record { vcpus = now (vt .entry); mutexes = now (mt .entry); opens = now (ot .entry); tasks = now (ts .entry) }) (now (src .entry))) (now (out .entry)) ⌝ }
+{
+    if on {
+        return answers_into(r, vt, mt, ot, ts, src, out);
+    }
+    lister::listing_into(r, vt, mt, ts, out)
+}
+
+// The same for an accepted plan; for a refused one its line.
+fn text_or(
+    on: bool,
     a: PlanAnswer,
     vt: &[u64],
     mt: &[u64],
@@ -148,30 +161,30 @@ fn answers_or(
     out: &mut [u8],
 ) -> TextAnswer
     requires { ⌜ Sure a (record { vcpus = now vt; mutexes = now mt; opens = now ot; tasks = now ts }) × (length (now src) ≤ 65536) ⌝ }
-    ensures { λ x. ⌜ x ≡ textAnswer (answersOr a (record { vcpus = now (vt .entry); mutexes = now (mt .entry); opens = now (ot .entry); tasks = now (ts .entry) }) (now (src .entry))) (now (out .entry)) ⌝ }
-    ensures { λ x. ⌜ now (out .exit) ≡ textAfter (answersOr a (record { vcpus = now (vt .entry); mutexes = now (mt .entry); opens = now (ot .entry); tasks = now (ts .entry) }) (now (src .entry))) (now (out .entry)) ⌝ }
+    ensures { λ x. ⌜ x ≡ textAnswer (toldOr on a (record { vcpus = now (vt .entry); mutexes = now (mt .entry); opens = now (ot .entry); tasks = now (ts .entry) }) (now (src .entry))) (now (out .entry)) ⌝ }
+    ensures { λ x. ⌜ now (out .exit) ≡ textAfter (toldOr on a (record { vcpus = now (vt .entry); mutexes = now (mt .entry); opens = now (ot .entry); tasks = now (ts .entry) }) (now (src .entry))) (now (out .entry)) ⌝ }
 {
-    if is_accepted(a) {
+    if reader::is_accepted(a) {
         let r = record_in(a);
-        return answers_into(r, vt, mt, ot, ts, src, out);
+        return text_into(on, r, vt, mt, ot, ts, src, out);
     }
     let x = refusal_in(a);
     let l = line_in(a);
     refusal_text(x, l, out)
 }
 
-// Reads a plan, and writes the answers to events, or the plan's refusal.
-fn events_text(plan: &[u8], src: &[u8], out: &mut [u8]) -> TextAnswer
+// Reads a plan, and writes the answers to the events of src where `on`, else its listing; or its refusal.
+fn text_of(on: bool, plan: &[u8], src: &[u8], out: &mut [u8]) -> TextAnswer
     requires { ⌜ length (now src) ≤ 65536 ⌝ }
-    ensures { λ x. ⌜ x ≡ textAnswer (eventsText (reading (now (plan .entry))) (now (src .entry))) (now (out .entry)) ⌝ }
-    ensures { λ x. ⌜ now (out .exit) ≡ textAfter (eventsText (reading (now (plan .entry))) (now (src .entry))) (now (out .entry)) ⌝ }
+    ensures { λ x. ⌜ x ≡ textAnswer (textFor on (reading (now (plan .entry))) (now (src .entry))) (now (out .entry)) ⌝ }
+    ensures { λ x. ⌜ now (out .exit) ≡ textAfter (textFor on (reading (now (plan .entry))) (now (src .entry))) (now (out .entry)) ⌝ }
 {
     let mut vt = [0u64; 80];
     let mut mt = [0u64; 64];
     let mut ot = [0u64; 256];
     let mut ts = [0u64; 1856];
     let a = records::read_rows(plan, &mut vt, &mut mt, &mut ot, &mut ts);
-    answers_or(a, &vt, &mt, &ot, &ts, src, out)
+    text_or(on, a, &vt, &mt, &ot, &ts, src, out)
 }
 
 // What `board` prints for any two inputs, into a lent buffer; with too little room 8, and the buffer as it was lent.
@@ -185,42 +198,7 @@ pub fn board_text(plan: &[u8], src: &[u8], out: &mut [u8]) -> TextAnswer
     if 65536 < src.len() {
         return refusal_text(Refusal::Room, 0, out);
     }
-    events_text(plan, src, out)
-}
-
-// Writes the listing of an accepted plan, or the line of a refused one.
-fn listing_or(
-    a: PlanAnswer,
-    vt: &[u64],
-    mt: &[u64],
-    ot: &[u64],
-    ts: &[u64],
-    out: &mut [u8],
-) -> TextAnswer
-    requires { ⌜ Sure a (record { vcpus = now vt; mutexes = now mt; opens = now ot; tasks = now ts }) ⌝ }
-    ensures { λ x. ⌜ x ≡ textAnswer (listingOr a (record { vcpus = now (vt .entry); mutexes = now (mt .entry); opens = now (ot .entry); tasks = now (ts .entry) })) (now (out .entry)) ⌝ }
-    ensures { λ x. ⌜ now (out .exit) ≡ textAfter (listingOr a (record { vcpus = now (vt .entry); mutexes = now (mt .entry); opens = now (ot .entry); tasks = now (ts .entry) })) (now (out .entry)) ⌝ }
-{
-    if is_accepted(a) {
-        let r = record_in(a);
-        return lister::listing_into(r, vt, mt, ts, out);
-    }
-    let x = refusal_in(a);
-    let l = line_in(a);
-    refusal_text(x, l, out)
-}
-
-// Reads a plan, and writes its listing or its refusal.
-fn plan_text(src: &[u8], out: &mut [u8]) -> TextAnswer
-    ensures { λ x. ⌜ x ≡ textAnswer (readText (reading (now (src .entry)))) (now (out .entry)) ⌝ }
-    ensures { λ x. ⌜ now (out .exit) ≡ textAfter (readText (reading (now (src .entry)))) (now (out .entry)) ⌝ }
-{
-    let mut vt = [0u64; 80];
-    let mut mt = [0u64; 64];
-    let mut ot = [0u64; 256];
-    let mut ts = [0u64; 1856];
-    let a = records::read_rows(src, &mut vt, &mut mt, &mut ot, &mut ts);
-    listing_or(a, &vt, &mt, &ot, &ts, out)
+    text_of(true, plan, src, out)
 }
 
 // What `verdict` prints for any input, into a lent buffer; with too little room 8, and the buffer as it was lent.
@@ -231,7 +209,7 @@ pub fn verdict_text(src: &[u8], out: &mut [u8]) -> TextAnswer
     if 65536 < src.len() {
         return refusal_text(Refusal::Room, 0, out);
     }
-    plan_text(src, out)
+    text_of(false, src, src, out)
 }
 
 // How many bytes a call has written.
@@ -244,7 +222,7 @@ fn bytes_in(a: TextAnswer) -> usize
     }
 }
 
-// What `board` prints, into a buffer of its program's size; returns the bytes written.
+// What `board` prints, into a buffer of at least its program's size; returns the bytes written.
 pub fn board_in(plan: &[u8], src: &[u8], out: &mut [u8]) -> usize
     requires { ⌜ boardBytes ≤ length (now out) ⌝ }
     ensures { λ n. ⌜ Wrote (boardText (now (plan .entry)) (now (src .entry))) (now (out .entry)) (now (out .exit)) n ⌝ }
@@ -254,7 +232,7 @@ pub fn board_in(plan: &[u8], src: &[u8], out: &mut [u8]) -> usize
     bytes_in(a)
 }
 
-// What `verdict` prints, into a buffer of its program's size; returns the bytes written.
+// What `verdict` prints, into a buffer of at least its program's size; returns the bytes written.
 pub fn verdict_in(src: &[u8], out: &mut [u8]) -> usize
     requires { ⌜ verdictBytes ≤ length (now out) ⌝ }
     ensures { λ n. ⌜ Wrote (verdictText (now (src .entry))) (now (out .entry)) (now (out .exit)) n ⌝ }

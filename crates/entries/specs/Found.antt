@@ -1,54 +1,34 @@
--- The first row that a name has, and the laws of the code that asks for a row by its names.
+-- Laws of the code that asks for a row by its names: what it answers of the row that was found, or of none.
 use Prim.Native.Nat.{ℕ, _+_, _-_, _*_, _/_, _%_, _<_, _≤_}
 use mathlib.Core.Path.{_≡_, ap, ap₂, sym, _∙_}
 use mathlib.Core.Bool.{Bool, true, false, _&&_}
 use mathlib.Core.List.{List}
 use native.Mathlib.Omega.{arith}
 use borrow.Author.Tests.{lt-ltb, le-ltb, le-leb, lt-leb, leb-true}
-use lib.Dec.{eqb, ltb, leb}
+use lib.Dec.{leb}
 use lib.ListN.{length, getD}
 use Rattle.laws.specs.BoolLaws.{both-left, both-right, both, miss-left, miss-right}
 use Rattle.laws.specs.Choice.{when}
-use Rattle.laws.specs.Sums.{any, first}
-use Rattle.laws.specs.Rows.{rows, Lacking}
-use Rattle.laws.specs.RowLaws.{rows-length, rows-at, any-found, lacking-all}
+use Rattle.laws.specs.RowLaws.{rows-length, rows-at}
 use Rattle.search.specs.declared.Answer.{Answer}
 use Rattle.search.specs.Search.{solve}
 use Rattle.model.specs.declared.Refusal.the-variants.{Unknown}
 use Rattle.model.specs.Plan.{Lock}
-use Rattle.model.specs.Lookup.{hasVcpu, global}
+use Rattle.model.specs.Lookup.{global}
 use Rattle.model.specs.Rules.{within}
 use Rattle.tables.specs.declared.PlanRecord.{PlanRecord}
 use Rattle.tables.specs.Layout.{Tables, cell, vcpuRow, lockRow, taskRow}
 use Rattle.tables.specs.Given.{planIn, isGiven}
 use Rattle.figures.specs.System.{System, system}
 use Rattle.figures.specs.Tabled.{systemIn}
-use Rattle.figures.specs.Figures.{noVcpu, vcpuAt, waitStart, waitDemand, response}
-use Rattle.figures.specs.Named.{noTask, noLock, hasTask, taskAt, lockAt, hasSection}
+use Rattle.figures.specs.Figures.{waitStart, waitDemand, response}
+use Rattle.figures.specs.Named.{noLock, hasTask, taskAt, lockAt, hasSection}
 use Rattle.figures.specs.declared.TaskAnswer.{TaskAnswer}
 use Rattle.figures.specs.Answers.{vcpuAnswer, waitAnswer, taskAnswer}
+use Rattle.found.specs.First.{VcpuFirst, TaskFirst, vcpu-test, vcpu-is, task-test, task-is}
 use Rattle.stored.specs.Stored.{sectionResponse, Responses}
-use Rattle.laws.specs.FirstLaws.{first-row}
 use Rattle.checker.specs.FitLaws.{system-in}
 use Rattle.entries.specs.Asked.{Row, NoRow, TaskRow, NoTaskRow, Figure, NoFigure, hasPlace, vcpuRowOf, waitRowOf, taskRowOf, responseRowOf}
-
--- THE FIRST ROW THAT PASSES, by its number: at least n where none of the n rows does
-pub record FirstAt {A : Type 0} (q : A → Bool) (d : A) (row : ℕ → A) (n i : ℕ) : Type 0 where
-  pub is : any q (rows n row) ≡ ltb i n
-  pub at : i < n → first q d (rows n row) ≡ row i
-
-module _ {A : Type 0} {q : A → Bool} (d : A) {row : ℕ → A} {n i : ℕ} (h : Lacking q row n i) where
-  pub first-here : i < n → q (row i) ≡ true → FirstAt q d row n i
-  first-here l e = record { is = any-found q row n i l e ∙ sym (lt-ltb i n l); at = λ m. first-row q d row n i h l e }
-
-  pub first-none : n ≤ i → FirstAt q d row n i
-  first-none l = record { is = sym (lacking-all h l) ∙ sym (le-ltb i n l); at = λ m. absurd (omega arith) }
-
-abbrev pub VcpuFirst : PlanRecord → List ℕ → ℕ → ℕ → Type 0
-VcpuFirst r vt v i = FirstAt (λ x. eqb (x .v) v) noVcpu (vcpuRow vt) (r .vcpus) i
-
-abbrev pub TaskFirst : PlanRecord → List ℕ → ℕ → ℕ → ℕ → Type 0
-TaskFirst r ts v n i = FirstAt (λ k. eqb (k .v) v && eqb (k .n) n) noTask (taskRow ts) (r .tasks) i
 
 -- A CHOICE that is known
 chosen : {A : Type 0} {b : Bool} (x y : A) → b ≡ true → x ≡ elim b [ true ↦ x | false ↦ y ]
@@ -60,29 +40,26 @@ passed x y e = rw e
 -- A ROW OF A PLAN
 module _ (r : PlanRecord) (vt mt ts : List ℕ) (v : ℕ) {i : ℕ} (h : VcpuFirst r vt v i) where
   pub vcpu-there : {a : Answer} → i < r .vcpus → a ≡ vcpuAnswer (systemIn r vt mt ts) (vcpuRow vt i) → Row a ≡ vcpuRowOf (systemIn r vt mt ts) v
-  unfolding vcpuRowOf hasVcpu vcpuAt systemIn
-  vcpu-there l e = ap Row (e ∙ ap (vcpuAnswer (systemIn r vt mt ts)) (sym (h .at l))) ∙ chosen _ _ (h .is ∙ lt-ltb i (r .vcpus) l)
+  unfolding vcpuRowOf systemIn
+  vcpu-there l e = ap Row (e ∙ ap (vcpuAnswer (systemIn r vt mt ts)) (sym (vcpu-is r vt v h mt ts l))) ∙ chosen _ _ (vcpu-test r vt v h ∙ lt-ltb i (r .vcpus) l)
 
   pub vcpu-lacking : r .vcpus ≤ i → NoRow Unknown ≡ vcpuRowOf (systemIn r vt mt ts) v
-  unfolding vcpuRowOf hasVcpu systemIn
-  vcpu-lacking l = passed _ _ (h .is ∙ le-ltb i (r .vcpus) l)
+  unfolding vcpuRowOf systemIn
+  vcpu-lacking l = passed _ _ (vcpu-test r vt v h ∙ le-ltb i (r .vcpus) l)
 
 module _ (r : PlanRecord) (vt mt ts : List ℕ) (v n : ℕ) {i : ℕ} (h : TaskFirst r ts v n i) where
-  task-is : i < r .tasks → taskAt (systemIn r vt mt ts) v n ≡ taskRow ts i
-  unfolding taskAt systemIn
-  task-is l = h .at l
+  row-is : i < r .tasks → taskAt (systemIn r vt mt ts) v n ≡ taskRow ts i
+  row-is l = task-is r vt mt ts v n h l
 
   has-task : i < r .tasks → hasTask (systemIn r vt mt ts) v n ≡ true
-  unfolding hasTask systemIn
-  has-task l = h .is ∙ lt-ltb i (r .tasks) l
+  has-task l = task-test r vt mt ts v n h ∙ lt-ltb i (r .tasks) l
 
   no-task : r .tasks ≤ i → hasTask (systemIn r vt mt ts) v n ≡ false
-  unfolding hasTask systemIn
-  no-task l = h .is ∙ le-ltb i (r .tasks) l
+  no-task l = task-test r vt mt ts v n h ∙ le-ltb i (r .tasks) l
 
   pub task-there : {a : TaskAnswer} → i < r .tasks → a ≡ taskAnswer (systemIn r vt mt ts) (taskRow ts i) → TaskRow a ≡ taskRowOf (systemIn r vt mt ts) v n
   unfolding taskRowOf
-  task-there l e = ap TaskRow (e ∙ ap (taskAnswer (systemIn r vt mt ts)) (sym (task-is l))) ∙ chosen _ _ (has-task l)
+  task-there l e = ap TaskRow (e ∙ ap (taskAnswer (systemIn r vt mt ts)) (sym (row-is l))) ∙ chosen _ _ (has-task l)
 
   pub task-lacking : r .tasks ≤ i → NoTaskRow Unknown ≡ taskRowOf (systemIn r vt mt ts) v n
   unfolding taskRowOf
@@ -91,7 +68,7 @@ module _ (r : PlanRecord) (vt mt ts : List ℕ) (v n : ℕ) {i : ℕ} (h : TaskF
   -- at its place there is a global section or not, as b says
   module _ (place : ℕ) where
     has-place : {b : Bool} → i < r .tasks → b ≡ hasSection (systemIn r vt mt ts) (taskRow ts i) place → hasPlace (systemIn r vt mt ts) v n place ≡ b
-    has-place l e = ap₂ _&&_ (has-task l) (ap (λ k. hasSection (systemIn r vt mt ts) k place) (task-is l) ∙ sym e)
+    has-place l e = ap₂ _&&_ (has-task l) (ap (λ k. hasSection (systemIn r vt mt ts) k place) (row-is l) ∙ sym e)
 
     no-place : r .tasks ≤ i → hasPlace (systemIn r vt mt ts) v n place ≡ false
     no-place l = miss-left (hasTask (systemIn r vt mt ts) v n) _ (no-task l)
@@ -100,7 +77,7 @@ module _ (r : PlanRecord) (vt mt ts : List ℕ) (v n : ℕ) {i : ℕ} (h : TaskF
         {a : Answer} {b : Bool} → i < r .tasks → b ≡ hasSection (systemIn r vt mt ts) (taskRow ts i) place → b ≡ true →
         a ≡ waitAnswer (systemIn r vt mt ts) (taskRow ts i) (lockAt (taskRow ts i) place) → Row a ≡ waitRowOf (systemIn r vt mt ts) v n place
     unfolding waitRowOf
-    wait-there l d f e = ap Row (e ∙ ap (λ k. waitAnswer (systemIn r vt mt ts) k (lockAt k place)) (sym (task-is l))) ∙ chosen _ _ (has-place l d ∙ f)
+    wait-there l d f e = ap Row (e ∙ ap (λ k. waitAnswer (systemIn r vt mt ts) k (lockAt k place)) (sym (row-is l))) ∙ chosen _ _ (has-place l d ∙ f)
 
     pub wait-lacking : r .tasks ≤ i → NoRow Unknown ≡ waitRowOf (systemIn r vt mt ts) v n place
     unfolding waitRowOf
@@ -116,7 +93,7 @@ module _ (r : PlanRecord) (vt mt ts : List ℕ) (v n : ℕ) {i : ℕ} (h : TaskF
         {x : ℕ} {b : Bool} → i < r .tasks → b ≡ hasSection (systemIn r vt mt ts) (taskRow ts i) place → b ≡ true →
         x ≡ response (systemIn r vt mt ts) (taskRow ts i) (lockAt (taskRow ts i) place) → Figure x ≡ responseRowOf (systemIn r vt mt ts) v n place
     unfolding responseRowOf
-    response-there l d f e = ap Figure (e ∙ ap (λ k. response (systemIn r vt mt ts) k (lockAt k place)) (sym (task-is l))) ∙ chosen _ _ (has-place l d ∙ f)
+    response-there l d f e = ap Figure (e ∙ ap (λ k. response (systemIn r vt mt ts) k (lockAt k place)) (sym (row-is l))) ∙ chosen _ _ (has-place l d ∙ f)
 
     pub response-lacking : r .tasks ≤ i → NoFigure Unknown ≡ responseRowOf (systemIn r vt mt ts) v n place
     unfolding responseRowOf

@@ -12,7 +12,6 @@ ghost use Rattle.figures.specs.Figures.{response};
 ghost use Rattle.figures.specs.Named.{lockAt, hasSection};
 ghost use Rattle.figures.specs.Answers.{vcpuAnswer, waitAnswer, taskAnswer};
 ghost use Rattle.entries.specs.Asked.{vcpuRowOf, waitRowOf, taskRowOf, responseRowOf, vcpuAsked, waitAsked, taskAsked, responseAsked};
-ghost use Rattle.entries.specs.Found.{VcpuFirst, TaskFirst};
 
 // The answer of a VCPU's or a wait's search, or a refusal.
 pub enum RowAnswer {
@@ -30,39 +29,6 @@ pub enum TaskRowAnswer {
 pub enum FigureAnswer {
     Figure(u64),
     NoFigure(Refusal),
-}
-
-// The first row of VCPU v, or the number of rows.
-fn vcpu_row(r: PlanRecord, vt: &[u64], mt: &[u64], ts: &[u64], v: u64) -> usize
-    requires { ⌜ Fit r (now vt) (now mt) (now ts) ⌝ }
-    ensures { λ x. ⌜ VcpuFirst r (now (vt .entry)) v x ⌝ }
-{
-    let n = r.vcpus;
-    let mut a = 0;
-    while a < n {
-        let x = cells::vcpu_cell(r, vt, mt, ts, a, 0);
-        if x == v {
-            return a;
-        }
-        a += 1;
-    }
-    a
-}
-
-// The first row of task (v, n), or the number of rows.
-fn task_row(r: PlanRecord, vt: &[u64], mt: &[u64], ts: &[u64], v: u64, n: u64) -> usize
-    requires { ⌜ Fit r (now vt) (now mt) (now ts) ⌝ }
-    ensures { λ x. ⌜ TaskFirst r (now (ts .entry)) v n x ⌝ }
-{
-    let e = r.tasks;
-    let mut a = 0;
-    while a < e {
-        if cells::row_task(r, vt, mt, ts, a, v, n) {
-            return a;
-        }
-        a += 1;
-    }
-    a
 }
 
 // Does a global section stand at place i of task k?
@@ -127,10 +93,12 @@ fn task_answer(r: PlanRecord, vt: &[u64], mt: &[u64], ts: &[u64], k: usize) -> T
     requires { ⌜ Fit r (now vt) (now mt) (now ts) × (k < r .tasks) ⌝ }
     ensures { λ x. ⌜ x ≡ taskAnswer (systemIn r (now (vt .entry)) (now (mt .entry)) (now (ts .entry))) (taskRow (now (ts .entry)) k) ⌝ }
 {
+    let mut tf = [0u64; 320];
+    let mut rf = [0u64; 512];
     let mut va = [0u64; 48];
     let mut wa = [0u64; 1536];
     let mut ta = [0u64; 192];
-    told::fill_answers(r, vt, mt, ts, &mut va, &mut wa, &mut ta);
+    told::fill_answers(r, vt, mt, ts, &mut tf, &mut rf, &mut va, &mut wa, &mut ta);
     told::task_answer_at(&ta, k)
 }
 
@@ -140,7 +108,7 @@ fn vcpu_in(r: PlanRecord, vt: &[u64], mt: &[u64], ts: &[u64], v: u64) -> RowAnsw
     ensures { λ a. ⌜ a ≡ vcpuRowOf (systemIn r (now (vt .entry)) (now (mt .entry)) (now (ts .entry))) v ⌝ }
 {
     let n = r.vcpus;
-    let a = vcpu_row(r, vt, mt, ts, v);
+    let a = found::vcpu_row(r, vt, mt, ts, v);
     if n <= a {
         return RowAnswer::NoRow(Refusal::Unknown);
     }
@@ -154,7 +122,7 @@ fn wait_in(r: PlanRecord, vt: &[u64], mt: &[u64], ts: &[u64], v: u64, n: u64, i:
     ensures { λ a. ⌜ a ≡ waitRowOf (systemIn r (now (vt .entry)) (now (mt .entry)) (now (ts .entry))) v n i ⌝ }
 {
     let e = r.tasks;
-    let k = task_row(r, vt, mt, ts, v, n);
+    let k = found::task_row(r, vt, mt, ts, v, n);
     if e <= k {
         return RowAnswer::NoRow(Refusal::Unknown);
     }
@@ -171,7 +139,7 @@ fn task_in(r: PlanRecord, vt: &[u64], mt: &[u64], ts: &[u64], v: u64, n: u64) ->
     ensures { λ a. ⌜ a ≡ taskRowOf (systemIn r (now (vt .entry)) (now (mt .entry)) (now (ts .entry))) v n ⌝ }
 {
     let e = r.tasks;
-    let k = task_row(r, vt, mt, ts, v, n);
+    let k = found::task_row(r, vt, mt, ts, v, n);
     if e <= k {
         return TaskRowAnswer::NoTaskRow(Refusal::Unknown);
     }
@@ -193,7 +161,7 @@ fn response_in(
     ensures { λ a. ⌜ a ≡ responseRowOf (systemIn r (now (vt .entry)) (now (mt .entry)) (now (ts .entry))) v n i ⌝ }
 {
     let e = r.tasks;
-    let k = task_row(r, vt, mt, ts, v, n);
+    let k = found::task_row(r, vt, mt, ts, v, n);
     if e <= k {
         return FigureAnswer::NoFigure(Refusal::Unknown);
     }
@@ -204,7 +172,7 @@ fn response_in(
     FigureAnswer::Figure(x)
 }
 
-// How late VCPU v can finish.
+// How late VCPU v can finish: 9 first, then 10.
 pub fn vcpu_time(r: PlanRecord, vt: &[u64], mt: &[u64], ot: &[u64], ts: &[u64], v: u64) -> RowAnswer
     ensures { λ a. ⌜ a ≡ vcpuAsked r (record { vcpus = now (vt .entry); mutexes = now (mt .entry); opens = now (ot .entry); tasks = now (ts .entry) }) v ⌝ }
 {
@@ -214,7 +182,7 @@ pub fn vcpu_time(r: PlanRecord, vt: &[u64], mt: &[u64], ot: &[u64], ts: &[u64], 
     vcpu_in(r, vt, mt, ts, v)
 }
 
-// How long task (v, n) can wait at its lock place i.
+// How long task (v, n) can wait at its lock place i: 9 first, then 10.
 pub fn wait_time(
     r: PlanRecord,
     vt: &[u64],
@@ -233,7 +201,7 @@ pub fn wait_time(
     wait_in(r, vt, mt, ts, v, n, i)
 }
 
-// How late task (v, n) can finish.
+// How late task (v, n) can finish: 9 first, then 10.
 pub fn task_time(
     r: PlanRecord,
     vt: &[u64],
@@ -251,7 +219,7 @@ pub fn task_time(
     task_in(r, vt, mt, ts, v, n)
 }
 
-// The response of the global section of task (v, n) at its lock place i.
+// The response of the global section of task (v, n) at its lock place i: 9 first, then 10.
 pub fn section_response(
     r: PlanRecord,
     vt: &[u64],

@@ -23,8 +23,10 @@ use Rattle.model.specs.declared.Refusal.the-variants.{Shape, Unknown}
 use Rattle.model.specs.declared.Fault.{Fault}
 use Rattle.model.specs.declared.Fault.the-variants.{Clear, Bad}
 use Rattle.model.specs.Line.{Form, Word, Item, shape, kinds, hasShape, itemOf, written, wAsk, wFree, wUse, wTop, wShow}
+use Rattle.model.specs.LineLaws.{kind-has}
+use Rattle.model.specs.JudgeLaws.{clear-test}
 use Rattle.lines.specs.Said.{saidOf}
-use Rattle.lines.specs.SaidLaws.{kind-has, item-is}
+use Rattle.lines.specs.SaidLaws.{item-is}
 use Rattle.listing.specs.Listing.{line}
 use Rattle.lockboard.specs.Facts.{Facts}
 use Rattle.lockboard.specs.declared.Board.{Board}
@@ -39,7 +41,7 @@ use Rattle.lockboard.specs.Board.{seat, leftOf, overOf, waitOf, withLeft, withH
 use Rattle.lockboard.specs.Events.{eventOf, onEvent, onItem, onLine, lineAnswers, wFreed, wLeft, answerFields, answersText}
 use Rattle.keeps.specs.Fair.{Fair, InV, InN, task-v}
 use Rattle.keeps.specs.Good.{good-sound}
-use Rattle.keeps.specs.Faults.{clear-test, free-clear, use-clear, top-clear}
+use Rattle.keeps.specs.Faults.{free-clear, use-clear, top-clear}
 use Rattle.replies.specs.Parts.{endText}
 use Rattle.replies.specs.PartsLaws.{end-none, end-some}
 use Rattle.replies.specs.Short.{Short, pair-long, plain-long, refused-short, shape-ten, number-ten}

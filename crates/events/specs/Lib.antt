@@ -1,5 +1,8 @@
 pub mod Told
 pub mod ToldLaws
+pub mod Tells
+pub mod Stays
 pub mod LoopLaws
+pub mod TellLaws
 pub mod Small
 pub mod Bound

@@ -1,5 +1,5 @@
 -- Laws of the loops over event lines: one turn, the end, and what is written so far.
-use Prim.Native.Nat.{ℕ, suc, _+_, _*_, _-_, _≤_}
+use Prim.Native.Nat.{ℕ, suc, _+_, _-_, _≤_}
 use mathlib.Core.Path.{_≡_, refl, ap, sym, _∙_}
 use mathlib.Core.List.{List, [], _∷_, _++_, append-assoc, append-nil}
 use mathlib.Core.Bool.{false, true≢false}
@@ -14,8 +14,8 @@ use Rattle.laws.specs.Sums.{flat}
 use Rattle.model.specs.Limits.{lf}
 use Rattle.model.specs.declared.Refusal.the-variants.{Shape}
 use Rattle.listing.specs.Listing.{line}
-use Rattle.letters.specs.Wrote.{Wrote, Sized}
-use Rattle.letters.specs.WroteLaws.{wrote-as}
+use Rattle.letters.specs.Wrote.{Wrote}
+use Rattle.letters.specs.WroteLaws.{wrote-as, wrote-long}
 use Rattle.lockboard.specs.Facts.{Facts}
 use Rattle.lockboard.specs.declared.Board.{Board}
 use Rattle.lockboard.specs.declared.BoardAnswer.{BoardAnswer}
@@ -62,21 +62,24 @@ module _ (s : List ℕ) (at k : ℕ) (r : List ℕ) (er : r ≡ drop at s) (ek :
   line-fits h = omega (arith, before-le lf r, ek, rest-long, h)
 
   module _ (F : Facts) (b : Board) where
-    pub replies-last : at ≤ length s → k ≡ length r → repliesTo F b (drop at s) ≡ endText k
+    pub replies-last : at ≤ length s → k ≡ length r → repliesTo F b (drop at s) ≡ endText k ++ []
     replies-last l h =
         ap (λ ls. answersText (lineAnswers F b ls)) (pieces-end lf s at k cut-at (omega (arith, rest-long)))
         ∙ ap answersText (lines-last F b (drop at s))
         ∙ end-text (drop at s)
         ∙ ap endText (sym (h ∙ ap length er))
+        ∙ sym (append-nil (endText k))
 
+    -- u is the board after the line
     pub replies-next :
-        (k ≡ length r → ⊥) → (o : Outcome) → o ≡ onLine F b (take k r) →
-        repliesTo F b (drop at s) ≡ line (answerFields (o .answer)) ++ repliesTo F (o .board) (drop (at + k + 1) s)
-    replies-next h o eo =
+        (k ≡ length r → ⊥) → (o : Outcome) → o ≡ onLine F b (take k r) → (u : Board) → o .board ≡ u →
+        repliesTo F b (drop at s) ≡ line (answerFields (o .answer)) ++ repliesTo F u (drop (at + k + 1) s)
+    replies-next h o eo u eu =
         ap (λ ls. answersText (lineAnswers F b ls)) (pieces-next lf s at k cut-at (omega (arith, line-fits h)))
         ∙ ap answersText (lines-more F b (take k (drop at s)) (pieces lf (drop (at + k + 1) s)) (pieces-some lf (drop (at + k + 1) s)))
         ∙ text-more _ _
         ∙ ap (λ p. line (answerFields (p .answer)) ++ repliesTo F (p .board) (drop (at + k + 1) s)) (sym (eo ∙ ap (λ x. onLine F b (take k x)) er))
+        ∙ ap (λ u. line (answerFields (o .answer)) ++ repliesTo F u (drop (at + k + 1) s)) eu
 
 -- WHAT IS WRITTEN SO FAR: n bytes, of which with those that are left the whole is made
 pub record Put (whole o₀ o left : List ℕ) (n : ℕ) : Type 0 where
@@ -95,13 +98,6 @@ wrote-start o n h =
 
 pub start-fits : (o t : List ℕ) (n : ℕ) → n + length t ≤ length o → length (take n o ++ t) ≤ length o
 start-fits o t n h = rw (length-append, length-take) (omega arith)
-
-pub room-as : {t u : List ℕ} {m : ℕ} (n : ℕ) → t ≡ u → n + length t ≤ m → n + length u ≤ m
-room-as n e h = rw e at h
-
--- a buffer keeps its length
-pub wrote-long : {text o₀ o : List ℕ} {n : ℕ} → length text ≤ length o₀ → Wrote text o₀ o n → length o ≡ length o₀
-wrote-long h w = ap length (w .bytes) ∙ rw (length-append, length-drop) (omega arith)
 
 -- nothing more is written
 pub wrote-nothing : (o t : List ℕ) (n : ℕ) → n + length t ≤ length o → t ≡ [] → Wrote (take n o ++ t) o o n
@@ -144,31 +140,6 @@ module _ {whole o₀ o left : List ℕ} {n : ℕ} (h : length whole ≤ length o
     put-more w =
         record { text = p .text ++ t; wrote = wrote-more t (p .wrote) w; is = p .is ∙ ap (λ y. p .text ++ y) e ∙ sym (append-assoc (p .text) t u) }
 
-  module _ (t : List ℕ) (e : left ≡ t) where
-    all : left ≡ t ++ []
-    all = e ∙ sym (append-nil t)
-
-    pub last-room : n + length t ≤ length o
-    last-room = put-room t [] all
-
-    pub put-last : {q : List ℕ} {m : ℕ} → Wrote (take n o ++ t) o q m → Wrote whole o₀ q m
-    put-last w = let p = put-more t [] all w in wrote-as (p .is ∙ append-nil (p .text)) (p .wrote)
-
--- THE SIZE SO FAR, n bytes of `at` bytes of lines
-pub record Sizes (whole left : List ℕ) (n at : ℕ) : Type 0 where
-  pub is : length whole ≡ n + length left
-  pub small : n ≤ 60 * at
-
-module _ {whole left : List ℕ} {n at : ℕ} (s : Sizes whole left n at) where
-  pub sizes-more : (t u : List ℕ) {x : ℕ} (k : ℕ) → left ≡ t ++ u → Sized t 60 x → Sizes whole u (n + x) (at + k + 1)
-  sizes-more t u k e z =
-      let b : length left ≡ length t + length u = ap length e ∙ length-append t u in
-      let c = z .is in let d = z .small in let f = s .is in let g = s .small in
-      record { is = omega arith; small = omega arith }
-
-  pub sizes-last : (t : List ℕ) {x : ℕ} → left ≡ t → Sized t 60 x → n + x ≡ length whole
-  sizes-last t e z = let b = ap length e in let c = z .is in let f = s .is in omega arith
-
-  -- and with one line more it is a small number
-  pub sizes-small : {t : List ℕ} {x l : ℕ} → at ≤ l → l ≤ 65536 → Sized t 60 x → n + x ≤ 4000000
-  sizes-small i j z = let d = z .small in let g = s .small in omega arith
+-- nothing is left to write
+pub put-all : {whole o₀ o : List ℕ} {n : ℕ} → Put whole o₀ o [] n → Wrote whole o₀ o n
+put-all p = wrote-as (p .is ∙ append-nil (p .text)) (p .wrote)

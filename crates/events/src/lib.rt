@@ -11,6 +11,7 @@ use model::Policy;
 use model::Refusal;
 ghost use mathlib.Core.Path.{_≡_};
 ghost use mathlib.Core.List.{_++_};
+ghost use mathlib.Core.Bool.{true};
 ghost use Prim.Native.Nat.{_+_, _≤_};
 ghost use lib.ListN.{length, take};
 ghost use Rattle.laws.specs.Bytes.{pieces};
@@ -19,11 +20,11 @@ ghost use Rattle.model.specs.Line.{shape, written, numsOf};
 ghost use Rattle.lines.specs.Said.{saidItem};
 ghost use Rattle.listing.specs.Listing.{line};
 ghost use Rattle.letters.specs.Wrote.{Wrote};
-ghost use Rattle.lockboard.specs.Board as board;
 ghost use Rattle.lockboard.specs.View.{factsIn};
 ghost use Rattle.lockboard.specs.Events.{eventOf, onItem, onLine, lineAnswers, answerFields, answersText};
 ghost use Rattle.replies.specs.Parts.{endText};
 ghost use Rattle.events.specs.Told.{toldOf, onSaid, onTold};
+ghost use Rattle.events.specs.Tells.{toldInto, moving, Space, Adds};
 
 const LF: u8 = 10;
 
@@ -31,17 +32,6 @@ const LF: u8 = 10;
 enum Told {
     Says(Event),
     Silent,
-}
-
-// A refused line: the board as it was.
-fn refused(b: Board, r: Refusal) -> Outcome
-    ensures { λ o. ⌜ o ≡ board.refused b r ⌝ }
-{
-    let a = BoardAnswer::Refused(r);
-    Outcome {
-        answer: a,
-        board: b,
-    }
 }
 
 // The event of a line's kind and numbers.
@@ -85,7 +75,7 @@ fn on_event(
     if ok {
         b.step_on(policy, choice, view, e)
     } else {
-        refused(b, Refusal::Number)
+        b.refuse(Refusal::Number)
     }
 }
 
@@ -102,7 +92,7 @@ fn on_told(
 {
     match t {
         Told::Says(e) => on_event(b, policy, choice, view, ok, e),
-        Told::Silent => refused(b, Refusal::Shape),
+        Told::Silent => b.refuse(Refusal::Shape),
     }
 }
 
@@ -129,45 +119,29 @@ fn on_said(b: Board, policy: Policy, choice: OverrunChoice, view: &[u64], s: Sai
     let found = s.found;
     match found {
         Found::Is(k) => on_kind(b, policy, choice, view, k, s),
-        Found::Nothing => refused(b, Refusal::Shape),
+        Found::Nothing => b.refuse(Refusal::Shape),
     }
 }
 
 // The answer to one event line, and the board after it.
-pub fn on_line(b: Board, policy: Policy, choice: OverrunChoice, view: &[u64], src: &[u8]) -> Outcome
+fn on_line(b: Board, policy: Policy, choice: OverrunChoice, view: &[u64], src: &[u8]) -> Outcome
     ensures { λ r. ⌜ r ≡ onLine (factsIn policy choice (now (view .entry))) b (now (src .entry)) ⌝ }
 {
     let s = lines::said_of(src);
     on_said(b, policy, choice, view, s)
 }
 
-// The size of the answers to the events of src.
-pub fn answers_size(
-    b: Board,
-    policy: Policy,
-    choice: OverrunChoice,
-    view: &[u64],
-    src: &[u8],
-) -> usize
-    requires { ⌜ length (now src) ≤ 65536 ⌝ }
-    ensures { λ r. ⌜ r ≡ length (answersText (lineAnswers (factsIn policy choice (now (view .entry))) b (pieces lf (now (src .entry))))) ⌝ }
+// Is the answer no refusal? After a refusal the board is as it was.
+fn moves(a: BoardAnswer) -> bool
+    ensures { λ r. ⌜ r ≡ moving a ⌝ }
 {
-    let mut t = b;
-    let mut n: usize = 0;
-    let mut at = 0;
-    loop {
-        let rest = &src[at..];
-        let k = lines::cut(rest, LF);
-        if k == rest.len() {
-            return n + replies::end_size(k);
-        }
-        let next = at + k + 1;
-        let o = on_line(t, policy, choice, view, &rest[..k]);
-        let a = o.answer;
-        let u = o.board;
-        n += replies::answer_size(a);
-        t = u;
-        at = next;
+    match a {
+        BoardAnswer::Granted => true,
+        BoardAnswer::Waits => true,
+        BoardAnswer::Freed(_) => true,
+        BoardAnswer::Left { b: _, o: _ } => true,
+        BoardAnswer::Shows { task: _, vcpu: _ } => true,
+        BoardAnswer::Refused(_) => false,
     }
 }
 
@@ -179,20 +153,32 @@ fn line_at(out: &mut [u8], n: usize, a: BoardAnswer) -> usize
     n + replies::answer_line(&mut out[n..], a)
 }
 
-// Writes the answer to the last piece, of k bytes, behind the first n bytes.
-fn end_at(out: &mut [u8], n: usize, k: usize) -> usize
-    requires { ⌜ n + length (endText k) ≤ length (now out) ⌝ }
-    ensures { λ r. ⌜ Wrote (take n (now (out .entry)) ++ endText k) (now (out .entry)) (now (out .exit)) r ⌝ }
+// Tells an answer behind the first n bytes: written where `on`, else only counted.
+fn tell(on: bool, out: &mut [u8], n: usize, a: BoardAnswer) -> usize
+    requires { ⌜ Space on (line (answerFields a)) (now out) n ⌝ }
+    ensures { λ r. ⌜ Adds on (line (answerFields a)) (now (out .entry)) (now (out .exit)) n r ⌝ }
+{
+    if on {
+        return line_at(out, n, a);
+    }
+    n + replies::answer_size(a)
+}
+
+// Tells the answer to the last piece, of k bytes, behind the first n bytes.
+fn tell_end(on: bool, out: &mut [u8], n: usize, k: usize) -> usize
+    requires { ⌜ Space on (endText k) (now out) n ⌝ }
+    ensures { λ r. ⌜ Adds on (endText k) (now (out .entry)) (now (out .exit)) n r ⌝ }
 {
     if k == 0 {
         return n;
     }
     let a = replies::unended();
-    line_at(out, n, a)
+    tell(on, out, n, a)
 }
 
-// Writes the answers to the events of src, one after another.
-pub fn put_answers(
+// The answers to the events of src: written one after another where `on`, else only counted; returns their size.
+pub fn answers(
+    on: bool,
     b: Board,
     policy: Policy,
     choice: OverrunChoice,
@@ -200,8 +186,9 @@ pub fn put_answers(
     src: &[u8],
     out: &mut [u8],
 ) -> usize
-    requires { ⌜ length (answersText (lineAnswers (factsIn policy choice (now view)) b (pieces lf (now src)))) ≤ length (now out) ⌝ }
-    ensures { λ r. ⌜ Wrote (answersText (lineAnswers (factsIn policy choice (now (view .entry))) b (pieces lf (now (src .entry))))) (now (out .entry)) (now (out .exit)) r ⌝ }
+    requires { ⌜ (length (now src) ≤ 65536) × (on ≡ true → length (answersText (lineAnswers (factsIn policy choice (now view)) b (pieces lf (now src)))) ≤ length (now out)) ⌝ }
+    ensures { λ r. ⌜ r ≡ length (answersText (lineAnswers (factsIn policy choice (now (view .entry))) b (pieces lf (now (src .entry))))) ⌝ }
+    ensures { λ r. ⌜ now (out .exit) ≡ toldInto on (answersText (lineAnswers (factsIn policy choice (now (view .entry))) b (pieces lf (now (src .entry))))) (now (out .entry)) ⌝ }
 {
     let mut t = b;
     let mut n: usize = 0;
@@ -210,14 +197,16 @@ pub fn put_answers(
         let rest = &src[at..];
         let k = lines::cut(rest, LF);
         if k == rest.len() {
-            return end_at(out, n, k);
+            return tell_end(on, out, n, k);
         }
         let next = at + k + 1;
         let o = on_line(t, policy, choice, view, &rest[..k]);
         let a = o.answer;
-        let m = line_at(out, n, a);
+        let m = tell(on, out, n, a);
         n = m;
-        t = o.board;
+        if moves(a) {
+            t = o.board;
+        }
         at = next;
     }
 }

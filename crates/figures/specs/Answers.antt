@@ -1,6 +1,5 @@
 -- The answers of a plan's rows: VCPUs, waits and tasks.
 use Prim.Native.Nat.{ℕ}
-use mathlib.Core.List.{List}
 use mathlib.Core.Bool.{Bool, true, false, _&&_}
 use Rattle.laws.specs.Choice.{when}
 use Rattle.laws.specs.Sums.{sum, any, all}

@@ -1,12 +1,11 @@
 -- The demands of equations 5, 6 and 11 never fall as their window grows and never go below their start, for every plan.
-use Prim.Native.Nat.{ℕ, _+_, _-_, _*_, _≤_}
-use mathlib.Core.Path.{_≡_, refl, ap}
-use mathlib.Core.List.{List}
+use Prim.Native.Nat.{ℕ, _+_, _*_, _≤_}
+use mathlib.Core.Path.{_≡_, refl}
 use native.Mathlib.Omega.{arith}
 use native.Mathlib.Nat.{add-zero}
 use Rattle.laws.specs.Choice.{when}
 use Rattle.laws.specs.Sums.{up, sum}
-use Rattle.laws.specs.SumLaws.{rise, up-rises, sum-rises, when-rises}
+use Rattle.laws.specs.SumLaws.{rise, sum-rises, when-rises}
 use Rattle.search.specs.Search.{Demand}
 use Rattle.model.specs.declared.Policy.{Policy}
 use Rattle.model.specs.declared.Policy.the-variants.{Periodic, Deferrable}

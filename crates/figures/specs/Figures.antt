@@ -1,7 +1,6 @@
 -- Figures from the paper: equations 1 to 9 and 11 to 16 as document 01 condenses them.
 use Prim.Native.Nat.{ℕ, _+_, _-_, _*_}
-use mathlib.Core.List.{List, []}
-use mathlib.Core.Bool.{Bool, true, false, _&&_}
+use mathlib.Core.Bool.{Bool, _&&_}
 use lib.Dec.{eqb, ltb}
 use Rattle.laws.specs.Choice.{when}
 use Rattle.laws.specs.Sums.{up, sum, greatest, any, first}
@@ -10,12 +9,9 @@ use Rattle.model.specs.declared.Policy.the-variants.{Periodic, Deferrable}
 use Rattle.model.specs.declared.OverrunChoice.{OverrunChoice}
 use Rattle.model.specs.declared.OverrunChoice.the-variants.{WithOverrun, WithoutOverrun}
 use Rattle.model.specs.Plan.{Vcpu, Lock, Task}
+pub use Rattle.model.specs.Plan.{noVcpu}
 use Rattle.model.specs.Lookup.{global, localTo}
 use Rattle.figures.specs.System.{System}
-
--- what is said of a VCPU that the plan lacks: zeros
-abbrev pub noVcpu : Vcpu
-noVcpu = record { v = 0; guest = 0; core = 0; budget = 0; period = 0 }
 
 -- VCPU v of the plan, which a task or a section names
 unfoldable pub vcpuAt : System → ℕ → Vcpu

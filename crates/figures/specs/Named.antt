@@ -1,11 +1,11 @@
 -- The rows of a plan by their names: a task by v and n, a lock by its place in the task.
 use Prim.Native.Nat.{ℕ, _-_}
-use mathlib.Core.List.{List, []}
 use mathlib.Core.Bool.{Bool, _&&_}
 use lib.Dec.{eqb}
 use lib.ListN.{length, getD}
 use Rattle.laws.specs.Sums.{any, first}
 use Rattle.model.specs.Plan.{Lock, Task}
+pub use Rattle.model.specs.Plan.{noTask, noLock}
 use Rattle.model.specs.Lookup.{global}
 use Rattle.model.specs.Rules.{within}
 use Rattle.figures.specs.System.{System}
@@ -15,16 +15,10 @@ unfoldable pub hasTask : System → ℕ → ℕ → Bool
 hasTask s v n = any (λ k. eqb (k .v) v && eqb (k .n) n) (s .tasks)
 
 -- task (v, n), where it is
-abbrev pub noTask : Task
-noTask = record { v = 0; n = 0; period = 0; first = 0; locks = [] }
-
 unfoldable pub taskAt : System → ℕ → ℕ → Task
 taskAt s v n = first (λ k. eqb (k .v) v && eqb (k .n) n) noTask (s .tasks)
 
 -- "lock place in the task (all its locks counted, from 1)"
-abbrev pub noLock : Lock
-noLock = record { m = 0; ticks = 0; after = 0 }
-
 unfoldable pub lockAt : Task → ℕ → Lock
 lockAt k i = getD (k .locks) (i - 1) noLock
 

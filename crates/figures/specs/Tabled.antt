@@ -6,7 +6,6 @@ use mathlib.Core.Bool.{true}
 use lib.ListN.{length, getD}
 use Rattle.laws.specs.Rows.{rows}
 use Rattle.model.specs.Limits.{maxV, maxM, maxTasks, maxLocks, maxPeriod, maxLength}
-use Rattle.model.specs.Plan.{Vcpu, Task}
 use Rattle.model.specs.Lookup.{hasVcpu}
 use Rattle.model.specs.Valid.{VcpuValid}
 use Rattle.tables.specs.declared.PlanRecord.{PlanRecord}

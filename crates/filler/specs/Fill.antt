@@ -13,11 +13,11 @@ use Rattle.tallies.specs.Tally.{markIn, most, bumped, tallyAfter}
 
 -- WHAT A LINE WRITES
 
--- where row i begins
+-- where row i begins; 0 from row 128 on, which no judged line reaches
 unfoldable pub place : ℕ → ℕ → ℕ
 place i w = cond (ltb i most) (i * w) 0
 
--- x at k where the test holds
+-- x at k where the test holds, and where d has such a place
 unfoldable pub putIf : Bool → List ℕ → ℕ → ℕ → List ℕ
 putIf true d k x = set d k x
 putIf false d k x = d

@@ -9,7 +9,7 @@ use lib.Seq.{drop-drop, drop-cons, set-at}
 use lib.Dec.{eqb, ltb}
 use borrow.Author.Tests.{lt-ltb, ltb-true, ne-eqb}
 use Rattle.laws.specs.Sums.{flat, Each}
-use Rattle.laws.specs.SumLaws.{each-map}
+use Rattle.laws.specs.SumLaws.{each-map, flat-append, each-flat}
 use Rattle.model.specs.Limits.{maxLocks}
 use Rattle.model.specs.declared.Kind.{Kind}
 use Rattle.model.specs.declared.Kind.the-variants.{PlanLine, GuestLine, TaskLine, LockLine, EndLine}
@@ -21,8 +21,8 @@ use Rattle.model.specs.declared.OverrunChoice.{OverrunChoice}
 use Rattle.model.specs.declared.OverrunChoice.the-variants.{WithOverrun, WithoutOverrun}
 use Rattle.model.specs.Text.{item, policyKind, runItem, lockItems, taskItems, sectionItems, itemsOf}
 use Rattle.tables.specs.Layout.{zeros, lockCells, taskCells, taskWidth, over}
-use Rattle.tables.specs.LayoutLaws.{Few, task-wide}
-use Rattle.tables.specs.FlatLaws.{flat-append, flat-length, each-flat}
+use Rattle.tables.specs.LayoutLaws.{Few, task-wide, zeros-length}
+use Rattle.tables.specs.FlatLaws.{flat-length}
 use Rattle.tallies.specs.declared.Tally.{Tally}
 use Rattle.tallies.specs.Tally.{markOf, most, bumped, locksBy, tallyBy, blank}
 use Rattle.tallies.specs.ItemLaws.{sayOf, over-vcpus, over-mutexes, over-opens, fromSections, fromOpens, fromMutexes, fromVcpus}
@@ -36,11 +36,6 @@ unfolding zeros
 zeros-more zero R = refl
 zeros-more (suc n) R = ap (λ x. 0 ∷ x) (zeros-more n R)
 
-zeros-long : (n : ℕ) → length (zeros n) ≡ n
-unfolding zeros
-zeros-long zero = refl
-zeros-long (suc n) = ap suc (zeros-long n)
-
 wiped-part : (P Q : List ℕ) (k n : ℕ) → length P ≡ k → n ≤ length Q → wiped (P ++ Q) k n ≡ P ++ (zeros n ++ drop n Q)
 unfolding wiped
 wiped-part P Q k zero l h = unfold zeros in refl
@@ -49,7 +44,7 @@ wiped-part P Q k (suc n) l h =
     ap (λ x. set x (k + n) 0) (wiped-part P Q k n l (omega arith))
     ∙ set-right P (zeros n ++ drop n Q) (k + n) n 0 (omega arith)
     ∙ ap (λ x. P ++ x)
-    (ap (λ x. set (zeros n ++ x) n 0) (drop-cons Q n 0 g) ∙ set-at (zeros n) (getD Q n 0) (drop (suc n) Q) 0 n (zeros-long n) ∙ zeros-more n (drop (suc n) Q))
+    (ap (λ x. set (zeros n ++ x) n 0) (drop-cons Q n 0 g) ∙ set-at (zeros n) (getD Q n 0) (drop (suc n) Q) 0 n (zeros-length n) ∙ zeros-more n (drop (suc n) Q))
 
 -- A ROW IN THE MAKING: behind P the numbers of a task, c locks so far with the cells L, z zeros, and R
 abbrev shown : List ℕ → ℕ → ℕ → ℕ → ℕ → ℕ → List ℕ → ℕ → List ℕ → List ℕ

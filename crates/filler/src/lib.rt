@@ -5,10 +5,7 @@ use tallies::Tally;
 ghost use mathlib.Core.Path.{_≡_};
 ghost use mathlib.Core.Bool.{true};
 ghost use Prim.Native.Nat.{_+_, _-_, _*_, _<_, _≤_};
-ghost use Rattle.laws.specs.Bytes.{pieces};
 ghost use Rattle.laws.specs.Rows.{Is};
-ghost use Rattle.model.specs.Limits.{lf};
-ghost use Rattle.tallies.specs.Tally as tallies;
 ghost use Rattle.filler.specs.Fill as fills;
 
 // Where row i of a table begins whose rows have w numbers.
@@ -143,27 +140,15 @@ fn put_sheet(t: Tally, s: Said, d: &mut [u64])
     put_lock(t, s, d);
 }
 
-// Writes the rows that the lines of `src` say into the tables.
-pub fn fill(src: &[u8], vt: &mut [u64], mt: &mut [u64], ot: &mut [u64], kt: &mut [u64])
-    ensures { λ r. ⌜ now (vt .exit) ≡ fills.filledBy fills.vcpuPut tallies.blank (now (vt .entry)) (pieces lf (now (src .entry))) ⌝ }
-    ensures { λ r. ⌜ now (mt .exit) ≡ fills.filledBy fills.mutexPut tallies.blank (now (mt .entry)) (pieces lf (now (src .entry))) ⌝ }
-    ensures { λ r. ⌜ now (ot .exit) ≡ fills.filledBy fills.openPut tallies.blank (now (ot .entry)) (pieces lf (now (src .entry))) ⌝ }
-    ensures { λ r. ⌜ now (kt .exit) ≡ fills.filledBy fills.taskPut tallies.blank (now (kt .entry)) (pieces lf (now (src .entry))) ⌝ }
+// What a line writes into the tables; what has no place in a table is dropped.
+pub fn put_line(t: Tally, s: Said, vt: &mut [u64], mt: &mut [u64], ot: &mut [u64], kt: &mut [u64])
+    ensures { λ r. ⌜ now (vt .exit) ≡ fills.vcpuPut t s (now (vt .entry)) ⌝ }
+    ensures { λ r. ⌜ now (mt .exit) ≡ fills.mutexPut t s (now (mt .entry)) ⌝ }
+    ensures { λ r. ⌜ now (ot .exit) ≡ fills.openPut t s (now (ot .entry)) ⌝ }
+    ensures { λ r. ⌜ now (kt .exit) ≡ fills.taskPut t s (now (kt .entry)) ⌝ }
 {
-    let mut t = tallies::blank();
-    let mut at = 0;
-    loop {
-        let l = scan::line_at(src, at);
-        if !l.ended {
-            return;
-        }
-        let s = l.said;
-        put_vcpu(t, s, vt);
-        put_mutex(t, s, mt);
-        put_open(t, s, ot);
-        put_sheet(t, s, kt);
-        let u = tallies::tally_after(t, s);
-        t = u;
-        at = l.next;
-    }
+    put_vcpu(t, s, vt);
+    put_mutex(t, s, mt);
+    put_open(t, s, ot);
+    put_sheet(t, s, kt);
 }

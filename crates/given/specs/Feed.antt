@@ -1,9 +1,8 @@
 -- The judge over items, one after the other, and the items of rows.
-use Prim.Native.Nat.{ℕ, zero, suc, _+_, _≤_}
+use Prim.Native.Nat.{ℕ, zero, suc, _≤_}
 use mathlib.Core.Path.{_≡_}
 use mathlib.Core.List.{List, [], _∷_, _++_}
 use mathlib.Core.Bool.{Bool, true, false, _&&_}
-use Rattle.laws.specs.Rows.{rows}
 use Rattle.model.specs.declared.Kind.{Kind}
 use Rattle.model.specs.declared.Kind.the-variants.{MutexG, MutexL, GuestLine, TaskLine, LockLine}
 use Rattle.model.specs.Line.{Item}

@@ -3,7 +3,7 @@ use mathlib.Core.Path.{_≡_, ap, ap₂, sym, _∙_}
 use mathlib.Core.Bool.{Bool, true, false, _&&_}
 use mathlib.Core.Logic.{_↔_}
 use mathlib.Core.List.{List, [], _∷_, _++_}
-use Rattle.laws.specs.BoolLaws.{both-right}
+use Rattle.laws.specs.BoolLaws.{both-right, both-ways, both-exactly}
 use Rattle.laws.specs.Rows.{rows}
 use Rattle.model.specs.Text.{itemsOf}
 use Rattle.model.specs.Rules as known
@@ -16,10 +16,10 @@ use Rattle.coded.specs.Coded.{coded, start, item}
 use Rattle.coded.specs.Agrees.{same-passes}
 use Rattle.tables.specs.declared.PlanRecord.{PlanRecord}
 use Rattle.tables.specs.Layout.{Tables, vcpuRow}
-use Rattle.tables.specs.Given.{planIn, roomy, clean, isGiven}
-use Rattle.tables.specs.GivenLaws.{Tested, clean-passes, roomy-exactly, tested-exactly, both-exactly, row-few}
+use Rattle.tables.specs.Given.{planIn, roomy, isGiven}
+use Rattle.tables.specs.GivenLaws.{Tested, clean-passes, roomy-exactly, tested-exactly, row-few}
 use Rattle.tables.specs.Sound.{given-sound}
-use Rattle.tidies.specs.TestLaws.{same-test, few-exactly, tidy-exactly, tidy-at, tidy-all}
+use Rattle.tidies.specs.TestLaws.{few-exactly, tidy-exactly, tidy-at, tidy-all}
 use Rattle.given.specs.Feed.{Run, fresh, feed, feeds, passing, lined, vcpuLines, mutexLines, openLines, taskLines}
 use Rattle.given.specs.FeedLaws.{fed-clean, feeds-append}
 use Rattle.given.specs.Tests.{few, Few, allTidy, frontItems, rowItems, cleanRows, soundRows}
@@ -72,7 +72,7 @@ pub given-tests : (r : PlanRecord) (t : Tables) → isGiven r t ≡ ((roomy r t 
 unfolding soundRows
 given-tests r t =
     let e = both-exactly (both-exactly (roomy-exactly r t) (few-exactly r)) (both-exactly {a = allTidy (t .tasks) (r .tasks)} (λ h. h, λ h. h) (clean-exactly r t)) in
-    same-test (isGiven r t) ((roomy r t && few r) && soundRows r t)
+    both-ways (isGiven r t) ((roomy r t && few r) && soundRows r t)
     (λ g.
     let s = given-sound r t g in
     let h : Tested r t = tested-exactly r t .0 g in

@@ -4,7 +4,6 @@ use judge::fault_of;
 use judge::ready;
 use judge::seen_after;
 use judge::start;
-use model::Fault;
 use model::Kind;
 use model::OverrunChoice;
 use model::Policy;
@@ -40,22 +39,12 @@ struct Run {
     seen: Seen,
 }
 
-// Is nothing wrong?
-fn is_clear(f: Fault) -> bool
-    ensures { λ r. ⌜ r ≡ tables.isClear f ⌝ }
-{
-    match f {
-        Fault::Clear => true,
-        Fault::Bad(_) => false,
-    }
-}
-
 // After one item more.
 fn fed(run: Run, kind: Kind, a: u64, b: u64, c: u64, d: u64, e: u64) -> Run
     ensures { λ r. ⌜ r ≡ feed.feed run (item kind a b c d e) ⌝ }
 {
     let seen = run.seen;
-    let ok = run.ok & is_clear(fault_of(seen, kind, a, b, c, d, e));
+    let ok = run.ok & tables::is_clear(fault_of(seen, kind, a, b, c, d, e));
     let next = seen_after(seen, kind, a, b, c, d, e);
     Run { ok: ok, seen: next }
 }

@@ -20,13 +20,12 @@ use coded::VCPUS;
 use model::Fault;
 use model::Kind;
 use model::Refusal;
+use model::unless;
+use model::within;
 ghost use mathlib.Core.Path.{_≡_};
 ghost use lib.ListN.{getD, set};
 ghost use lib.Dec.{leb};
-ghost use Rattle.model.specs.Refusals as refusals;
 ghost use Rattle.model.specs.Rules as rules;
-ghost use Rattle.model.specs.Line.{shape};
-ghost use Rattle.model.specs.Line as line;
 ghost use Rattle.model.specs.Reading.{fault};
 ghost use Rattle.coded.specs.Coded as coded;
 ghost use Rattle.coded.specs.Coded.{item};
@@ -64,25 +63,11 @@ fn put(d: &mut [u8], i: u64, x: u64)
     }
 }
 
-// Is x from lo to hi?
-fn within(x: u64, lo: u64, hi: u64) -> bool
-    ensures { λ r. ⌜ r ≡ rules.within x lo hi ⌝ }
-{
-    (lo <= x) & (x <= hi)
-}
-
 // Are both in range, from 1 on?
 fn ranged(x: u64, hi: u64, y: u64, top: u64) -> bool
     ensures { λ r. ⌜ r ≡ coded.ranged x hi y top ⌝ }
 {
     within(x, 1, hi) & within(y, 1, top)
-}
-
-// The refusal r, unless the test holds; then what the later tests say.
-fn unless(ok: bool, r: Refusal, rest: Fault) -> Fault
-    ensures { λ f. ⌜ f ≡ refusals.unless ok r rest ⌝ }
-{
-    if ok { rest } else { Fault::Bad(r) }
 }
 
 // The number by which a line's place is told (specs/Rules of the model).

@@ -9,15 +9,15 @@ use borrow.Author.Tests.{eqb-true, ne-eqb}
 use lib.Dec.{eqb}
 use Rattle.laws.specs.BoolLaws.{both-left, both-right}
 use Rattle.laws.specs.Choice.{when}
-use Rattle.laws.specs.Sums.{any, first, flat, sum, greatest, Each, Chain}
-use Rattle.laws.specs.SumLaws.{each-append, each-map, first-none}
+use Rattle.laws.specs.Sums.{any, first, sum, greatest, Each, Chain}
+use Rattle.laws.specs.SumLaws.{each-map, first-none, each-flat}
 use Rattle.model.specs.Limits.{maxN}
 use Rattle.model.specs.declared.OverrunChoice.{OverrunChoice}
 use Rattle.model.specs.declared.OverrunChoice.the-variants.{WithOverrun, WithoutOverrun}
 use Rattle.model.specs.Plan.{Vcpu, Owner, Global, Local, Mutex, Open, Lock, Task, Plan, tasksOf}
 use Rattle.model.specs.Lookup.{isGlobal, isLocalTo, hasVcpu, hasMutex, global, localTo}
 use Rattle.model.specs.Valid.{VcpuValid, MutexValid, LockValid, TaskValid, Valid}
-use Rattle.model.specs.ListLaws.{any-weaker}
+use Rattle.model.specs.ListLaws.{any-weaker, chain-rest, rising-above}
 use Rattle.model.specs.LookupLaws.{of-has, reach-has}
 use Rattle.figures.specs.System.{system}
 use Rattle.figures.specs.Figures.{vcpuAt, noVcpu, longestGlobal, ght, overrunBy, overrunOf, locksIt, ceiling}
@@ -42,7 +42,7 @@ any-row f P (x ∷ xs) e h =
     let ih = any-row f P xs in
     ⊎-elim (λ p. record { row = x; passes = p; has = h .0 }) (λ p. ih p (h .1)) (either-of (f x) (any f xs) e)
 
--- what holds of every row and of d holds of the first row that passes
+-- what holds of every row holds of the first row that passes, where one does
 first-has : {A : Type 0} (f : A → Bool) (P : A → Type 0) (d : A) (xs : List A) → any f xs ≡ true → Each P xs → P (first f d xs)
 unfolding any first
 first-has f P d [] e h = absurd (never (sym e))
@@ -51,11 +51,6 @@ first-has f P d (x ∷ xs) e h = go (f x) (either-of (f x) (any f xs) e) (λ q. 
     go : (t : Bool) → (t ≡ true) ⊎ (any f xs ≡ true) → (any f xs ≡ true → P (first f d xs)) → P (elim t [ true ↦ x | false ↦ first f d xs ])
     go true o ih = h .0
     go false o ih = ⊎-elim (λ q. absurd (never (sym q))) ih o
-
-each-flat : {A B : Type 0} (P : B → Type 0) (g : A → List B) (xs : List A) → Each (λ x. Each P (g x)) xs → Each P (flat g xs)
-unfolding flat
-each-flat P g [] h = tt
-each-flat P g (x ∷ xs) h = each-append P (g x) (flat g xs) (h .0) (each-flat P g xs (h .1))
 
 sum-zero : {A : Type 0} (f : A → ℕ) (xs : List A) → Each (λ x. f x ≡ 0) xs → sum f xs ≡ 0
 unfolding sum
@@ -72,14 +67,6 @@ greatest-row p f n (x ∷ xs) h e =
 
 -- MUTEXES RISE, so that a name has one row
 
-rest-above : (r : Mutex) (rs : List Mutex) → Chain (λ r s. r .m < s .m) (r ∷ rs) → Each (λ s. r .m < s .m) rs
-rest-above r [] h = tt
-rest-above r (s ∷ rs) h = (h .0, each-map rs (λ x l. let k = h .0 in omega arith) (rest-above s rs (h .1)))
-
-chain-tail : (r : Mutex) (rs : List Mutex) → Chain (λ r s. r .m < s .m) (r ∷ rs) → Chain (λ r s. r .m < s .m) rs
-chain-tail r [] h = tt
-chain-tail r (s ∷ rs) h = h .1
-
 -- what two look-ups of m say is said by one owner
 record OneOwner (p q : Owner → Bool) : Type 0 where
   owner : Owner
@@ -91,7 +78,7 @@ one-owner : (p q : Owner → Bool) (m : ℕ) (ms : List Mutex) → Chain (λ r s
 unfolding any
 one-owner p q m [] c a d = absurd (never (sym a))
 one-owner p q m (r ∷ rs) c a d =
-    let ih = one-owner p q m rs (chain-tail r rs c) in
+    let ih = one-owner p q m rs (chain-rest (λ r s. r .m < s .m) r rs c) in
     ⊎-elim
     (λ e. ⊎-elim
     (λ u. record { owner = r .owner; this = both-right (eqb (r .m) m) _ e; that = both-right (eqb (r .m) m) _ u })
@@ -104,7 +91,7 @@ one-owner p q m (r ∷ rs) c a d =
     -- no later row has r's name
     above : (t : Owner → Bool) → r .m ≡ m → any (λ s. eqb (s .m) m && t (s .owner)) rs ≡ true → ⊥
     above t e u =
-        let w = any-row (λ s. eqb (s .m) m && t (s .owner)) (λ s. r .m < s .m) rs u (rest-above r rs c) in
+        let w = any-row (λ s. eqb (s .m) m && t (s .owner)) (λ s. r .m < s .m) rs u (rising-above (λ s. s .m) r rs c) in
         let z = eqb-true (w .row .m) m (both-left (eqb (w .row .m) m) _ (w .passes)) in
         let l = w .has in omega arith
 

@@ -1,36 +1,23 @@
 -- What an event that is not refused says of the plan and the board.
 use Prim.Native.Nat.{ℕ, _≤_}
-use mathlib.Core.Path.{_≡_, refl}
-use mathlib.Core.Bool.{Bool, true, false, _&&_, not}
+use mathlib.Core.Path.{_≡_}
+use mathlib.Core.Bool.{true, false, _&&_, not}
 use mathlib.Core.Logic.{⊎-elim}
-use native.Mathlib.Omega.{arith}
 use borrow.Author.Tests.{leb-true, eqb-true, eqb-false, not-true, not-false}
 use lib.Dec.{eqb, leb}
 use Rattle.laws.specs.RangeLaws.{none-at}
 use Rattle.laws.specs.BoolLaws.{both-left, both-right, neither-left, neither-right}
 use Rattle.model.specs.Limits.{maxM, maxTicks}
-use Rattle.model.specs.declared.Refusal.{Refusal}
 use Rattle.model.specs.declared.Refusal.the-variants.{Range, Unknown, Unlisted, Asleep, Busy, NotHolder, Supply}
-use Rattle.model.specs.declared.Fault.{Fault}
 use Rattle.model.specs.declared.Fault.the-variants.{Clear}
-use Rattle.model.specs.Refusals.{unless}
 use Rattle.model.specs.Rules.{within}
+use Rattle.model.specs.JudgeLaws.{clear-test, clear-rest}
 use Rattle.lockboard.specs.Facts.{Facts}
 use Rattle.lockboard.specs.declared.Board.{Board}
 use Rattle.lockboard.specs.Board.{seat, holderOf, waitOf, holds, isBusy, isAsleep, supply, passes, mayHave, askFault, freeFault, useFault, topFault}
 use Rattle.keeps.specs.Fair.{Fair, InM}
 use Rattle.keeps.specs.Cases.{clash, bool-cases}
 use Rattle.keeps.specs.Good.{barred-fails}
-
-pub clear-test : (t : Bool) (r : Refusal) (f : Fault) → unless t r f ≡ Clear → t ≡ true
-unfolding unless
-clear-test true r f e = refl
-clear-test false r f e = let z : _≡_ {A = ℕ} 0 1 = cc in absurd (omega arith)
-
-pub clear-rest : (t : Bool) (r : Refusal) (f : Fault) → unless t r f ≡ Clear → f ≡ Clear
-unfolding unless
-clear-rest true r f e = e
-clear-rest false r f e = let z : _≡_ {A = ℕ} 0 1 = cc in absurd (omega arith)
 
 -- `ask v n m` is not refused: the sheet lists m, and the task neither holds nor waits
 pub record AskClear (F : Facts) (b : Board) (v n m : ℕ) : Type 0 where

@@ -10,6 +10,7 @@ pub mod Faults
 pub mod SettleEvents
 pub mod Moves
 pub mod Keeps
+pub mod Leaves
 pub mod Runs
 pub mod Tested
 pub mod HandOn

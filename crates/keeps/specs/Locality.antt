@@ -42,9 +42,6 @@ none-global F k i e z = let l = i .from in omega arith
 local-global : {F : Facts} → Fair F → (v m : ℕ) → F .localTo v m ≡ true → NotGlobal F m
 local-global {F} f v m l k i e z = clash (ap (F .global) z ∙ e) (f .local-only v m l)
 
-pub global-same : {F : Facts} {v : ℕ} {b b′ : Board} → Fair F → Untouched F v b b′ → (k : ℕ) → InM k → F .global k ≡ true → holderOf b′ k ≡ holderOf b k
-global-same {F} {v} f u k i e = u .holder-same k i (λ l. clash e (f .local-only v k l))
-
 -- no event
 pub untouched : (F : Facts) (v : ℕ) (b : Board) → Untouched F v b b
 untouched F v b = record {

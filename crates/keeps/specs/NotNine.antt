@@ -27,7 +27,7 @@ use Rattle.keeps.specs.Cases.{bool-cases}
 use Rattle.keeps.specs.Runs.{run-step-on}
 
 -- an answer, and a fault, that is not 9
-abbrev NotNine : BoardAnswer → Type 0
+abbrev pub NotNine : BoardAnswer → Type 0
 NotNine a = a ≡ Refused Foreign → ⊥
 
 abbrev OtherFault : Fault → Type 0

@@ -7,7 +7,7 @@ use native.Mathlib.Omega.{arith}
 use borrow.Author.Tests.{eqb-true, eq-eqb, not-true}
 use lib.Dec.{eqb}
 use lib.ListN.{getD, set, length, length-set}
-use lib.Seq.{getD-set-same, getD-set-other, set-getD, ext-getD}
+use lib.Seq.{getD-set-same, getD-set-other, ext-getD}
 use Rattle.laws.specs.Range.{anyTo, listTo}
 use Rattle.laws.specs.RangeLaws.{any-hit, list-length, list-at}
 use Rattle.laws.specs.BoolLaws.{both-left, both-right, both}
@@ -18,7 +18,6 @@ use Rattle.lockboard.specs.Board.{seat, leftOf, isStopped, holderOf, holds, hol
 use Rattle.keeps.specs.Fair.{InV, InN, InM}
 use Rattle.keeps.specs.Shaped.{Shaped}
 use Rattle.keeps.specs.Cases.{clash, bool-cases, is-false, same-or-not, any-found}
-use Rattle.keeps.specs.Good.{Marked}
 
 -- WHO HOLDS A GLOBAL MUTEX
 
@@ -129,10 +128,3 @@ settle-one F b v s i h = ap (withStopped b) (ext-getD false _ _ long at-each)
         let down : suc k - 1 ≡ k = omega arith in
         list-at maxV k (λ w. isStopped b w || mustStop F b w) false lt ∙ at-w (suc k) (record { from = omega arith; to = lt })
         ∙ ap (λ j. getD (set (b .stopped) (v - 1) (isStopped b v || mustStop F b v)) j false) down
-
--- a board whose marks all stand is settled
-pub settled-same : (F : Facts) (b : Board) → Shaped b → Marked F b → settled F b ≡ b
-settled-same F b s k =
-    let i : InV 1 = record { from = omega arith; to = omega arith } in
-    let own : (isStopped b 1 || mustStop F b 1) ≡ isStopped b 1 = ⊎-elim (λ e. rw e) (λ e. rw e (k 1 i e)) (bool-cases (isStopped b 1)) in
-    settle-one F b 1 s i (λ w j ne e. k w j e) ∙ ap (λ t. withStopped b (set (b .stopped) 0 t)) own ∙ ap (withStopped b) (set-getD (b .stopped) 0 false)

@@ -1,20 +1,20 @@
--- Each event of VCPU v on a good board: to settle v alone is to settle the board.
+-- `ask` and `free` of a local mutex by VCPU v on a good board: to settle v alone is to settle the board.
 use Prim.Native.Nat.{ℕ, _-_, _<_}
 use mathlib.Core.Path.{_≡_, refl, sym, ap, _∙_}
-use mathlib.Core.Bool.{Bool, true, false}
+use mathlib.Core.Bool.{true, false}
 use native.Mathlib.Omega.{arith}
 use borrow.Author.Tests.{eqb-true}
-use lib.ListN.{getD, set, length-set}
+use lib.ListN.{getD}
 use Rattle.lockboard.specs.Facts.{Facts}
 use Rattle.lockboard.specs.declared.Board.{Board}
 use Rattle.lockboard.specs.declared.Next.{Next}
-use Rattle.lockboard.specs.declared.Next.the-variants.{Nobody, To}
-use Rattle.lockboard.specs.Board.{seat, leftOf, isStopped, holderOf, waitOf, withLeft, withStopped, withHolder, withWait, settled, good, mayHave, handedTo, grantedLocal, nextGlobal, nextLocal}
+use Rattle.lockboard.specs.declared.Next.the-variants.{To}
+use Rattle.lockboard.specs.Board.{seat, leftOf, isStopped, holderOf, waitOf, withHolder, withWait, settled, good, mayHave, grantedLocal, nextLocal}
 use Rattle.keeps.specs.Fair.{InV, InN, InM}
-use Rattle.keeps.specs.Shaped.{Shaped, left-shaped, stopped-shaped, holder-shaped, wait-shaped, handed-shaped, granted-shaped}
+use Rattle.keeps.specs.Shaped.{Shaped, holder-shaped, wait-shaped, granted-shaped}
 use Rattle.keeps.specs.Cases.{clash}
 use Rattle.keeps.specs.Good.{good-marked}
-use Rattle.keeps.specs.Change.{seat-one, seat-some, holder-off, left-else, stopped-else, holder-else}
+use Rattle.keeps.specs.Change.{seat-some, holder-off, holder-else}
 use Rattle.keeps.specs.Nexts.{LocalNext, no-waiter, top-fails, top-passes, local-next}
 use Rattle.keeps.specs.Settle.{GlobalHold, still-not-due, settledAt, settle-one}
 
@@ -27,19 +27,6 @@ module _ (F : Facts) {b : Board} (s : Shaped b) (g : good F b ≡ true) where
       settled F b′ ≡ settledAt F b′ v
   settle-kept b′ v s′ i l t h =
       settle-one F b′ v s′ i (λ w j ne e. still-not-due F b b′ w (l w j ne) (h w j ne) (good-marked F b g w j (sym (t w j ne) ∙ e)))
-
-  -- `use v t`, and any other change of what is left of v
-  pub settle-left : (v l o : ℕ) → InV v → settled F (withLeft b v l o) ≡ settledAt F (withLeft b v l o) v
-  settle-left v l o i =
-      settle-kept (withLeft b v l o) v (left-shaped v l o s) i (λ w j ne. left-else b v l o w i j ne) (λ w j ne. refl) (λ w j ne h. h)
-
-  -- `top v`
-  pub settle-top : (v l o : ℕ) (t : Bool) → InV v →
-      settled F (withStopped (withLeft b v l o) (set (b .stopped) (v - 1) t)) ≡ settledAt F (withStopped (withLeft b v l o) (set (b .stopped) (v - 1) t)) v
-  settle-top v l o t i =
-      settle-kept (withStopped (withLeft b v l o) (set (b .stopped) (v - 1) t)) v
-      (stopped-shaped {b = withLeft b v l o} _ (length-set (b .stopped) _ _ ∙ s .stopped-long) (left-shaped v l o s)) i
-      (λ w j ne. left-else b v l o w i j ne) (λ w j ne. stopped-else b v t w i j ne) (λ w j ne h. h)
 
   -- `ask v n m` that waits
   pub settle-wait : (v n m : ℕ) → InV v → settled F (withWait b v n m) ≡ settledAt F (withWait b v n m) v
@@ -61,19 +48,6 @@ module _ (F : Facts) {b : Board} (s : Shaped b) (g : good F b ≡ true) where
       settle-locks (withHolder b m (seat v n)) v (holder-shaped m _ s) i refl refl
       (λ w x y j ne p q r z. holder-else b m (seat v n) y k q
       (λ a. let free : holderOf b m ≡ 0 = eqb-true (holderOf b m) 0 (rw (ap (F .global) (sym a) ∙ r) at e) in seat-some w x p (sym z ∙ ap (holderOf b) a ∙ free)) ∙ z)
-
-  -- `free v n m` of a global mutex, which (v, n) holds
-  pub settle-global : (v n m : ℕ) → InV v → InN n → InM m → holderOf b m ≡ seat v n →
-      settled F (handedTo b m (nextGlobal b m)) ≡ settledAt F (handedTo b m (nextGlobal b m)) v
-  settle-global v n m i j k e = to (nextGlobal b m)
-    where
-      stays : (h w x y : ℕ) → InV w → (w ≡ v → ⊥) → InN x → InM y → F .global y ≡ true → holderOf b y ≡ seat w x → holderOf (withHolder b m h) y ≡ seat w x
-      stays h w x y l ne p q r z =
-          holder-else b m h y k q (λ a. ne (sym (seat-one v n w x i j l p (sym e ∙ ap (holderOf b) (sym a) ∙ z) .0))) ∙ z
-
-      to : (w : Next) → settled F (handedTo b m w) ≡ settledAt F (handedTo b m w) v
-      to Nobody = settle-locks (withHolder b m 0) v (holder-shaped m 0 s) i refl refl (stays 0)
-      to (To w x) = settle-locks (handedTo b m (To w x)) v (handed-shaped m (To w x) s) i refl refl (stays (seat w x))
 
   -- `free v n m` of a local mutex, where no local mutex of v is global
   pub settle-local : (v m : ℕ) → InV v → InM m → F .global m ≡ false → ((k : ℕ) → F .localTo v k ≡ true → F .global k ≡ false) →

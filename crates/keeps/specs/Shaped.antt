@@ -2,7 +2,7 @@
 use Prim.Native.Nat.{ℕ, _-_, _*_}
 use mathlib.Core.Path.{_≡_, _∙_}
 use mathlib.Core.Bool.{Bool, true, false}
-use mathlib.Core.List.{List, [], _∷_}
+use mathlib.Core.List.{List}
 use lib.ListN.{length, length-set}
 use Rattle.laws.specs.Choice.{if_then_else_}
 use Rattle.laws.specs.RangeLaws.{list-length}
@@ -17,7 +17,6 @@ use Rattle.lockboard.specs.declared.Next.{Next}
 use Rattle.lockboard.specs.declared.Next.the-variants.{Nobody, To}
 use Rattle.lockboard.specs.declared.Outcome.{Outcome}
 use Rattle.lockboard.specs.Board.{fresh, withLeft, withStopped, withHolder, withWait, settled, handedTo, grantedLocal, nextGlobal, nextLocal, asked, mayHave, freed, freedGlobal, freedLocal, used, topped, answered, askFault, freeFault, useFault, topFault, showFault, step}
-use Rattle.lockboard.specs.Events.{boardAfter}
 
 pub record Shaped (b : Board) : Type 0 where
   pub left-long : length (b .left) ≡ maxV
@@ -106,9 +105,3 @@ step-shaped F {b} (Top v) s =
     shaped-answered (topFault F v) _ s
     (settled-shaped F (stopped-shaped {b = withLeft b v _ _} _ (length-set (b .stopped) _ _ ∙ s .stopped-long) (left-shaped {b = b} v _ _ s)))
 step-shaped F {b} (Show v n) s = shaped-answered (showFault F v n) _ s s
-
--- the board after any events
-pub run-shaped : (F : Facts) {b : Board} (es : List Event) → Shaped b → Shaped (boardAfter F b es)
-unfolding boardAfter
-run-shaped F [] s = s
-run-shaped F (e ∷ es) s = run-shaped F es (step-shaped F e s)

@@ -86,17 +86,6 @@ pieces-some b (x ∷ s) = go (eqb x b) (pieces b s)
     go false [] = refl
     go false (l ∷ ls) = refl
 
--- no piece has a separator
-pub pieces-lack : (b : ℕ) (s : List ℕ) → eachLacks b (pieces b s) ≡ true
-unfolding pieces eachLacks lacks
-pieces-lack b [] = refl
-pieces-lack b (x ∷ s) = go (eqb x b) refl (pieces b s) (pieces-lack b s)
-  where
-    go : (t : Bool) → eqb x b ≡ t → (ls : List (List ℕ)) → eachLacks b ls ≡ true → eachLacks b (cond t ([] ∷ ls) (onFirst x ls)) ≡ true
-    go true e ls h = h
-    go false e [] h = rw e
-    go false e (l ∷ ls) h = rw e h
-
 pub joined-pieces : (b : ℕ) (s : List ℕ) → joined b (pieces b s) ≡ s
 unfolding pieces joined
 joined-pieces b [] = refl

@@ -5,10 +5,10 @@ use mathlib.Core.List.{List, [], _∷_, _++_, append-assoc, append-nil}
 use mathlib.Core.Bool.{Bool, true, false, cond}
 use mathlib.Core.Logic.{_⊎_, inl, inr, ⊎-elim}
 use native.Mathlib.Omega.{arith}
-use native.Mathlib.Nat.{pow-suc, pow-le-pow-right, zero-add, add-zero}
+use native.Mathlib.Nat.{pow-suc, zero-add, add-zero}
 use lib.Dec.{eqb, leb, ltb}
 use lib.ListN.{length, length-append}
-use borrow.Author.Tests.{lt-ltb, le-ltb, ltb-true, ltb-false, le-leb, leb-true, ne-eqb, eqb-false, not-true}
+use borrow.Author.Tests.{lt-ltb, le-ltb, ltb-true, ltb-false, le-leb, ne-eqb, eqb-false, not-true}
 use Rattle.laws.specs.Bytes.{above}
 use Rattle.laws.specs.BytesLaws.{above-append}
 use Rattle.laws.specs.Decimal.{digitOf, scan, starts, value, digits, decimal}
@@ -210,19 +210,6 @@ unfolding value
 value-decimal w n p h =
     simp (le-leb (length (decimal n)) w (decimal-length w n p h), starts-decimal n)
     (rw (decimal-digits w n p h, ← append-nil (digits w n)) (scan-digits (10 ^ w) w n [] h ∙ (unfold scan in refl)))
-
--- no field says more than 10 ^ w
-pub value-small : (w : ℕ) (f : List ℕ) → value w f ≤ 10 ^ w
-unfolding value
-value-small w f = go (leb (length f) w) refl (starts f)
-  where
-    go : (p : Bool) → leb (length f) w ≡ p → (q : Bool) → cond p (cond q (scan (10 ^ w) 0 f) (10 ^ w)) (10 ^ w) ≤ 10 ^ w
-    go false e q = omega arith
-    go true e false = omega arith
-    go true e true =
-        let l : length f + 0 ≤ w = omega (arith, leb-true (length f) w e) in
-        let m : 10 ^ (length f + 0) ≤ 10 ^ w = pow-le-pow-right (omega arith) l in
-        ⊎-elim (λ r. omega arith) (λ r. omega arith) (scan-room (10 ^ w) f 0 0 (omega arith))
 
 starts-some : (f : List ℕ) → starts f ≡ true → 0 < length f
 unfolding starts

@@ -1,8 +1,8 @@
 -- Laws of the tests over the numbers from 1 to n, as a loop uses them, and as a reader does.
-use Prim.Native.Nat.{ℕ, zero, suc, _+_, _<_, _≤_}
-use mathlib.Core.Path.{_≡_, refl, ap₂, sym, _∙_}
-use mathlib.Core.Bool.{Bool, true, false, _&&_, _||_}
-use mathlib.Core.List.{List, [], _∷_, _++_}
+use Prim.Native.Nat.{ℕ, zero, suc, _+_, _<_, _≤_, _-_}
+use mathlib.Core.Path.{_≡_, refl, sym, _∙_}
+use mathlib.Core.Bool.{Bool, true, false}
+use mathlib.Core.List.{[], _∷_}
 use mathlib.Core.Logic.{_↔_, ⊎-elim}
 use native.Mathlib.Nat.{eq-or-lt-of-le, le-of-suc-le-suc}
 use native.Mathlib.Numerals.{add-one}
@@ -10,7 +10,7 @@ use native.Mathlib.Omega.{arith}
 use lib.ListN.{length, getD, length-append, List·getD-append}
 use lib.Seq.{getD-at}
 use Rattle.laws.specs.BoolLaws.{both-left, both-right, both, miss-left, miss-right, either-left, either-right, neither-left, neither-right, neither}
-use Rattle.laws.specs.Range.{anyTo, allTo, highest, flatTo, listTo}
+use Rattle.laws.specs.Range.{anyTo, allTo, highest, listTo}
 
 -- k is at most n + 1: it is n + 1, or at most n
 last-or : {P : Type 0} (n k : ℕ) → k ≤ suc n → (k ≡ suc n → P) → (k ≤ n → P) → P
@@ -87,13 +87,6 @@ pub highest-miss : (n : ℕ) (f : ℕ → Bool) → f (suc n) ≡ false → high
 unfolding highest
 highest-miss n f e = rw (e, highest)
 
--- the same, as code counts
-pub highest-more : (n : ℕ) (f : ℕ → Bool) → f (n + 1) ≡ true → highest (n + 1) f ≡ n + 1
-highest-more n f e = rw add-one (highest-hit n f (rw add-one at e))
-
-pub highest-skip : (n : ℕ) (f : ℕ → Bool) → f (n + 1) ≡ false → highest (n + 1) f ≡ highest n f
-highest-skip n f e = rw add-one (highest-miss n f (rw add-one at e))
-
 pub highest-le : (n : ℕ) (f : ℕ → Bool) → highest n f ≤ n
 unfolding highest
 highest-le zero f = omega arith
@@ -147,18 +140,7 @@ highest-is (suc n) k f g l e h =
     last-or n k l (λ p. rw p (highest-hit n f (rw p at e)))
     (λ m. highest-miss n f (h (suc n) (omega arith) (omega arith)) ∙ highest-is n k f g m e (λ j a b. h j a (omega arith)))
 
--- WHAT IS THE SAME FROM 1 TO n GIVES THE SAME
-
-pub any-same : (n : ℕ) {f g : ℕ → Bool} → ((k : ℕ) → 0 < k → k ≤ n → f k ≡ g k) → anyTo n f ≡ anyTo n g
-unfolding anyTo
-any-same zero h = refl
-any-same (suc n) h = ap₂ _||_ (h (suc n) (omega arith) (omega arith)) (any-same n (λ k a b. h k a (omega arith)))
-
-pub all-same : (n : ℕ) {f g : ℕ → Bool} → ((k : ℕ) → 0 < k → k ≤ n → f k ≡ g k) → allTo n f ≡ allTo n g
-unfolding allTo
-all-same zero h = refl
-all-same (suc n) h = ap₂ _&&_ (h (suc n) (omega arith) (omega arith)) (all-same n (λ k a b. h k a (omega arith)))
-
+-- what is the same from 1 to n gives the same
 pub highest-same : (n : ℕ) {f g : ℕ → Bool} → ((k : ℕ) → 0 < k → k ≤ n → f k ≡ g k) → highest n f ≡ highest n g
 highest-same zero {f} {g} h = highest-none f ∙ sym (highest-none g)
 highest-same (suc n) {f} {g} h =
@@ -168,15 +150,27 @@ highest-same (suc n) {f} {g} h =
     go true e q ih = highest-hit n f e ∙ sym (highest-hit n g (q ∙ e))
     go false e q ih = highest-miss n f e ∙ ih ∙ sym (highest-miss n g (q ∙ e))
 
-pub flat-same : {B : Type 0} (n : ℕ) {f g : ℕ → List B} → ((k : ℕ) → 0 < k → k ≤ n → f k ≡ g k) → flatTo n f ≡ flatTo n g
-unfolding flatTo
-flat-same zero h = refl
-flat-same (suc n) h = ap₂ _++_ (flat-same n (λ k a b. h k a (omega arith))) (h (suc n) (omega arith) (omega arith))
+-- A LOOP FROM n DOWN: none above k passes
+pub record Down (n : ℕ) (f : ℕ → Bool) (k : ℕ) : Type 0 where
+  pub within : k ≤ n
+  pub is : highest n f ≡ highest k f
 
-pub list-same : {B : Type 0} (n : ℕ) {f g : ℕ → B} → ((k : ℕ) → 0 < k → k ≤ n → f k ≡ g k) → listTo n f ≡ listTo n g
-unfolding listTo
-list-same zero h = refl
-list-same (suc n) h = ap₂ (λ l x. l ++ (x ∷ [])) (list-same n (λ k a b. h k a (omega arith))) (h (suc n) (omega arith) (omega arith))
+module _ {n : ℕ} {f : ℕ → Bool} where
+  pub down-none : Down n f n
+  down-none = record { within = omega arith; is = refl }
+
+  pub down-more : {b : Bool} {k : ℕ} → Down n f k → 0 < k → b ≡ f k → b ≡ false → Down n f (k - 1)
+  down-more {k = zero} h l e q = absurd (omega arith)
+  down-more {k = suc k} h l e q =
+      let z : suc k - 1 ≡ k = omega arith in rw z (record { within = omega (arith, h .within); is = h .is ∙ highest-miss k f (sym e ∙ q) })
+
+  pub down-out : {b : Bool} {k : ℕ} → Down n f k → 0 < k → b ≡ f k → b ≡ true → k ≡ highest n f
+  down-out {k = zero} h l e q = absurd (omega arith)
+  down-out {k = suc k} h l e q = sym (h .is ∙ highest-hit k f (sym e ∙ q))
+
+  pub down-all : {k : ℕ} → Down n f k → k ≤ 0 → 0 ≡ highest n f
+  down-all {k = zero} h l = sym (h .is ∙ highest-none f)
+  down-all {k = suc k} h l = absurd (omega arith)
 
 -- LISTS
 

@@ -1,6 +1,6 @@
 -- Laws of a loop over the rows of a table: before the first row, one row more, after the last; and what its sums and tests say of each row.
 use Prim.Native.Nat.{ℕ, zero, suc, _+_, _*_, _≤_, _<_, min, max}
-use mathlib.Core.Path.{_≡_, refl, ap, ap₂, sym, _∙_}
+use mathlib.Core.Path.{_≡_, refl, ap₂, sym, _∙_}
 use mathlib.Core.Bool.{Bool, true, false, _&&_, _||_, not, or-false, and-true}
 use mathlib.Core.List.{List, [], _∷_, _++_}
 use native.Mathlib.Decide.{le-ind}
@@ -13,7 +13,6 @@ use lib.Seq.{ext-getD, getD-at}
 use Rattle.laws.specs.BoolLaws.{both, miss-left, miss-right, either-left, either-right, neither}
 use Rattle.laws.specs.Sums.{sum, greatest, any, all, Each}
 use Rattle.laws.specs.SumLaws.{sum-append, sum-one, greatest-append, greatest-one, any-append, all-append, all-each, each-append, each-at}
-use Rattle.laws.specs.Range.{listTo}
 use Rattle.laws.specs.Rows.{rows, Is, Summed, Capped, Greatest, Lacking, Passed}
 
 -- THE ROWS
@@ -42,12 +41,6 @@ pub rows-getD : {A : Type 0} (xs : List A) (d : A) → rows (length xs) (λ i. g
 rows-getD xs d =
     let e = rows-length (length xs) (λ i. getD xs i d) in
     ext-getD d (rows (length xs) (λ i. getD xs i d)) xs e (λ i l. rows-at (length xs) i (λ j. getD xs j d) d (rw e at l))
-
--- rows counted from 1
-pub rows-list : {A : Type 0} (n : ℕ) (f : ℕ → A) → listTo n f ≡ rows n (λ i. f (suc i))
-unfolding listTo rows
-rows-list zero f = refl
-rows-list (suc n) f = ap (λ l. l ++ (f (suc n) ∷ [])) (rows-list n f)
 
 -- what holds of every row, by its number
 module _ {A : Type 0} (P : A → Type 0) (n : ℕ) (row : ℕ → A) where
@@ -89,9 +82,6 @@ module _ {A : Type 0} {f : A → ℕ} {row : ℕ → A} {b n : ℕ} where
 
   pub greatest-more : {s x r i : ℕ} → Greatest f row b n s i → i < n → Is x (f (row i)) b → r ≡ max s x → Greatest f row b n r (i + 1)
   greatest-more {i} h l e m = record { within = omega arith; is = omega (arith, greatest-next f row i); small = omega arith }
-
-  pub greatest-row : {s x r i : ℕ} {y : A} → Greatest f row b n s i → i < n → Is x (f y) b → y ≡ row i → r ≡ max s x → Greatest f row b n r (i + 1)
-  greatest-row h l e k m = greatest-more h l (record { is = e .is ∙ ap f k; small = e .small }) m
 
   pub greatest-all : {s i : ℕ} → Greatest f row b n s i → n ≤ i → Is s (greatest f (rows n row)) b
   greatest-all t l = record { is = rw (le-antisymm l (t .within)) (t .is); small = t .small }

@@ -3,8 +3,7 @@ use Prim.Native.Nat.{ℕ, zero, suc, _+_, _*_, _-_, _^_, _≤_, _<_}
 use mathlib.Core.Path.{_≡_, refl, ap, sym, _∙_}
 use mathlib.Core.List.{List, [], _∷_}
 use mathlib.Core.Bool.{Bool, true, false, cond, not}
-use mathlib.Core.Logic.{⊎-elim}
-use native.Mathlib.Nat.{pow-suc, pow-le-pow-right, eq-or-lt-of-le}
+use native.Mathlib.Nat.{pow-suc, pow-le-pow-right}
 use native.Mathlib.Numerals.{add-one}
 use native.Mathlib.Omega.{arith}
 use lib.Dec.{eqb}
@@ -13,7 +12,7 @@ use lib.Seq.{drop-cons, drop-drop, take-all}
 use borrow.Author.Tests.{eq-eqb, ne-eqb, lt-ltb, le-ltb}
 use Rattle.laws.specs.Bytes.{onFirst, pieces}
 use Rattle.laws.specs.Decimal.{digitOf, scan, starts}
-use Rattle.laws.specs.Fields.{before, after, count, field, fieldsTo, Cut, Tallied, Scanned}
+use Rattle.laws.specs.Fields.{before, after, count, fieldsTo, Cut, Tallied, Scanned}
 
 -- one more byte of what is left
 pub drop-next : (s : List ℕ) (i : ℕ) → i < length s → drop i s ≡ getD s i 0 ∷ drop (i + 1) s
@@ -149,9 +148,6 @@ drop-before b (x ∷ s) = go (eqb x b) (drop-before b s)
 pub before-whole : (b : ℕ) (s : List ℕ) → length s ≤ length (before b s) → before b s ≡ s
 before-whole b s h = sym (take-before b s) ∙ take-all (length (before b s)) s h
 
-pub after-none : (b : ℕ) (s : List ℕ) → length s ≤ length (before b s) → after b s ≡ []
-after-none b s h = sym (drop-before b s) ∙ drop-of-length-le s {i = suc (length (before b s))} (omega arith)
-
 -- what a cut at n says of the parts
 module _ (b : ℕ) (s : List ℕ) (n : ℕ) (e : n ≡ length (before b s)) where
   pub head-part : take n s ≡ before b s
@@ -230,21 +226,6 @@ fields-length b (suc n) s = ap suc (fields-length b n (after b s))
 
 pub pieces-length : (b : ℕ) (s : List ℕ) → length (pieces b s) ≡ suc (count b s)
 pieces-length b s = ap length (pieces-fields b s) ∙ fields-length b (count b s) s
-
-field-empty : (b k : ℕ) → field b k [] ≡ []
-unfolding field before after
-field-empty b zero = refl
-field-empty b (suc k) = field-empty b k
-
--- the k-th field is the k-th piece
-pub field-piece : (b k : ℕ) (s : List ℕ) → field b k s ≡ getD (pieces b s) k []
-unfolding field
-field-piece b zero s =
-    ⊎-elim (λ l. rw (pieces-uncut b s (omega arith))) (λ l. rw (pieces-cut b s l)) (eq-or-lt-of-le (before-le b s))
-field-piece b (suc k) s =
-    let ih = field-piece b k (after b s) in
-    ⊎-elim (λ l. let n : length s ≤ length (before b s) = omega arith in rw (pieces-uncut b s n, after-none b s n) (field-empty b k))
-    (λ l. rw (pieces-cut b s l) ih) (eq-or-lt-of-le (before-le b s))
 
 -- HOW A NUMBER STARTS, BY ITS LENGTH AND FIRST BYTE
 

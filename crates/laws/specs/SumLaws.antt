@@ -1,7 +1,7 @@
 -- Laws of `Sums`: what is rounded up, summed up or maximised rises with its parts, and a sum or a product may be capped early.
 use Prim.Native.Nat.{ℕ, zero, suc, _+_, _-_, _*_, _/_, _≤_, _<_, min, max}
 use mathlib.Core.Bool.{Bool, true, false, _&&_, _||_, and-assoc, or-assoc}
-use mathlib.Core.List.{List, [], _∷_, _++_}
+use mathlib.Core.List.{List, [], _∷_, _++_, append-assoc}
 use mathlib.Core.Path.{_≡_, refl, ap, ap₂, _∙_}
 use mathlib.Core.Logic.{_↔_, ⊎-elim, by-cases}
 use native.Mathlib.Nat.{div-zero, div-eq-of-lt, add-div-right, div-lt-iff-lt-mul, eq-zero-or-pos, mul-le-mul, le-refl, le-trans, le-mul-of-pos-right, add-le-add, min-eq-left, min-eq-right, max-le, mul-zero, mul-comm}
@@ -96,18 +96,6 @@ unfolding sum
 sum-bound [] b h = omega arith
 sum-bound (x ∷ xs) b h = omega (arith, h x, sum-bound xs b h)
 
--- no row is above the sum
-pub sum-at : {A : Type 0} (f : A → ℕ) (xs : List A) (i : ℕ) (d : A) → i < length xs → f (getD xs i d) ≤ sum f xs
-unfolding sum
-sum-at f [] i d h = absurd (omega arith)
-sum-at f (x ∷ xs) zero d h = omega arith
-sum-at f (x ∷ xs) (suc i) d h = omega (arith, sum-at f xs i d (omega arith))
-
-pub sum-flat : {A B : Type 0} (f : B → ℕ) (g : A → List B) (xs : List A) → sum f (flat g xs) ≡ sum (λ x. sum f (g x)) xs
-unfolding sum flat
-sum-flat f g [] = refl
-sum-flat f g (x ∷ xs) = sum-append f (g x) (flat g xs) ∙ ap (λ n. sum f (g x) + n) (sum-flat f g xs)
-
 -- MAXIMA
 
 pub greatest-one : {A : Type 0} (f : A → ℕ) (x : A) → greatest f (x ∷ []) ≡ f x
@@ -129,26 +117,10 @@ unfolding greatest
 greatest-rises-on f g [] h = omega arith
 greatest-rises-on f g (x ∷ xs) h = max-rises (h .0) (greatest-rises-on f g xs (h .1))
 
-pub greatest-same : {A : Type 0} (xs : List A) {f g : A → ℕ} → ((x : A) → f x ≡ g x) → greatest f xs ≡ greatest g xs
-unfolding greatest
-greatest-same [] h = refl
-greatest-same (x ∷ xs) h = ap₂ max (h x) (greatest-same xs h)
-
 pub greatest-bound : {A : Type 0} (xs : List A) (b : ℕ) {f : A → ℕ} → ((x : A) → f x ≤ b) → greatest f xs ≤ b
 unfolding greatest
 greatest-bound [] b h = omega arith
 greatest-bound (x ∷ xs) b h = max-le (h x) (greatest-bound xs b h)
-
-pub greatest-at : {A : Type 0} (f : A → ℕ) (xs : List A) (i : ℕ) (d : A) → i < length xs → f (getD xs i d) ≤ greatest f xs
-unfolding greatest
-greatest-at f [] i d h = absurd (omega arith)
-greatest-at f (x ∷ xs) zero d h = omega arith
-greatest-at f (x ∷ xs) (suc i) d h = omega (arith, greatest-at f xs i d (omega arith))
-
-pub greatest-sum : {A : Type 0} (f : A → ℕ) (xs : List A) → greatest f xs ≤ sum f xs
-unfolding greatest sum
-greatest-sum f [] = omega arith
-greatest-sum f (x ∷ xs) = omega (arith, greatest-sum f xs)
 
 -- TESTS
 
@@ -187,6 +159,18 @@ each-at P [] i d h l = absurd (omega arith)
 each-at P (x ∷ xs) zero d h l = h .0
 each-at P (x ∷ xs) (suc i) d h l = each-at P xs i d (h .1) (omega arith)
 
+-- ROWS ONE AFTER THE OTHER
+
+pub flat-append : {A B : Type 0} (f : A → List B) (xs ys : List A) → flat f (xs ++ ys) ≡ flat f xs ++ flat f ys
+unfolding flat
+flat-append f [] ys = refl
+flat-append f (x ∷ xs) ys = rw (flat-append f xs ys, append-assoc)
+
+pub each-flat : {A B : Type 0} (P : B → Type 0) (f : A → List B) (xs : List A) → Each (λ x. Each P (f x)) xs → Each P (flat f xs)
+unfolding flat
+each-flat P f [] h = tt
+each-flat P f (x ∷ xs) h = each-append P (f x) (flat f xs) (h .0) (each-flat P f xs (h .1))
+
 -- CHOSEN ROWS
 
 module _ {A : Type 0} (f : A → Bool) where
@@ -217,16 +201,6 @@ module _ {A : Type 0} (f : A → Bool) where
   unfolding first
   first-out d x xs e = rw (e, first)
 
-  -- some row passes: the first that does passes
-  pub first-passes : (d : A) (xs : List A) → any f xs ≡ true → f (first f d xs) ≡ true
-  unfolding any
-  first-passes d [] h = absurd (let z : _≡_ {A = ℕ} 0 1 = cc in omega arith)
-  first-passes d (x ∷ xs) h = go (f x) refl h (first-passes d xs)
-    where
-      go : (t : Bool) → f x ≡ t → (t || any f xs) ≡ true → (any f xs ≡ true → f (first f d xs) ≡ true) → f (first f d (x ∷ xs)) ≡ true
-      go true e h ih = rw (first-in d x xs e) e
-      go false e h ih = rw (first-out d x xs e) (ih h)
-
   -- no row passes
   pub first-none : (d : A) (xs : List A) → any f xs ≡ false → first f d xs ≡ d
   unfolding any
@@ -237,17 +211,6 @@ module _ {A : Type 0} (f : A → Bool) where
 
 -- what proves that a demand rises, from `h : t ≤ u` in reach: `search rise depth 9`
 pub ruleset rise = (le-refl, add-le-add, mul-le-mul, up-rises, when-rises, sum-rises, greatest-rises, max-rises)
-
-module _ {A : Type 0} (xs : List A) (p c e : A → ℕ) (on : A → A → Bool) where
-  -- a later time
-  later : (t u base : ℕ) → t ≤ u →
-      base + sum (λ x. when (on x x) ((up t (p x) + 1) * c x)) xs + greatest (λ x. sum (λ y. when (on x y) (up t (p y) * c x)) xs) xs
-      ≤ base + sum (λ x. when (on x x) ((up u (p x) + 1) * c x)) xs + greatest (λ x. sum (λ y. when (on x y) (up u (p y) * c x)) xs) xs
-  later t u base h = search rise depth 9
-
-  -- larger costs
-  cheaper : (t base : ℕ) → ((x : A) → c x ≤ e x) → base + sum (λ x. (up t (p x) + 1) * c x) xs ≤ base + sum (λ x. (up t (p x) + 1) * e x) xs
-  cheaper t base h = search rise depth 9
 
 -- CAPS
 

@@ -1,5 +1,5 @@
 -- Rounding up; sums, maxima and tests over the rows of a list.
-use Prim.Native.Nat.{ℕ, zero, suc, _+_, _-_, _/_, max}
+use Prim.Native.Nat.{ℕ, _+_, _-_, _/_, max}
 use mathlib.Core.Bool.{Bool, true, false, _&&_, _||_}
 use mathlib.Core.List.{List, [], _∷_, _++_}
 

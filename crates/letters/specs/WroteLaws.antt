@@ -20,6 +20,10 @@ wrote-as e w = rw e w
 pub fits-as : {t u : List ℕ} {m : ℕ} → t ≡ u → length t ≤ m → length u ≤ m
 fits-as e h = rw e at h
 
+-- a text that fits leaves the buffer's length
+pub wrote-long : {t a b : List ℕ} {n : ℕ} → length t ≤ length a → Wrote t a b n → length b ≡ length a
+wrote-long {t} {a} h w = ap length (w .bytes) ∙ length-append t (drop (length t) a) ∙ omega (arith, length-drop (length t) a)
+
 module _ (w o : List ℕ) where
   pub copied-none : Copied w o o 0
   copied-none = record { within = omega arith; is = refl }
@@ -55,7 +59,7 @@ module _ {text t u : List ℕ} (j : Joins text t u) where
 
   module _ {a b : List ℕ} {n : ℕ} (h : length text ≤ length a) (w : Wrote t a b n) where
     same-room : length b ≡ length a
-    same-room = let k = sizes in ap length (w .bytes) ∙ simp (length-append, length-drop) (omega arith)
+    same-room = wrote-long (first-fits h) w
 
     -- t ends within the buffer
     pub ends : n ≤ length b

@@ -6,7 +6,7 @@ use lib.Dec.{eqb, leb, ltb}
 use lib.ListN.{length}
 use Rattle.laws.specs.Choice.{when}
 use Rattle.laws.specs.Decimal.{value}
-use Rattle.laws.specs.Fields.{before, after, field}
+use Rattle.laws.specs.Fields.{before, after}
 use Rattle.model.specs.Limits.{maxDigits, tab}
 use Rattle.model.specs.declared.Kind.{Kind}
 use Rattle.model.specs.declared.Kind.the-variants.{PlanLine, PolicyPO, PolicyPN, PolicyDO, PolicyDN, VcpuLine, MutexG, MutexL, OpenLine, GuestLine, TaskLine, RunLine, LockLine, EndLine, AskLine, FreeLine, UseLine, TopLine, ShowLine}

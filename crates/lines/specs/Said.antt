@@ -1,10 +1,9 @@
 -- What a line says: its kind, and its numbers from left to right, 0 where there are fewer.
 use Prim.Native.Nat.{ℕ}
-use mathlib.Core.List.{List, [], _∷_}
+use mathlib.Core.List.{List, []}
 use mathlib.Core.Option.{Option, some, none}
 use Rattle.laws.specs.Bytes.{pieces}
 use Rattle.model.specs.Limits.{tab}
-use Rattle.model.specs.declared.Kind.{Kind}
 use Rattle.model.specs.declared.Found.{Found}
 use Rattle.model.specs.declared.Found.the-variants.{Is, Nothing}
 use Rattle.model.specs.Line.{Item, shape, kinds, numbers, numsOf, kindIn}

@@ -3,7 +3,7 @@ use Prim.Native.Nat.{ℕ, zero, suc, pred}
 use mathlib.Core.Path.{_≡_, refl, ap, _∙_}
 use mathlib.Core.List.{List, [], _∷_}
 use mathlib.Core.Option.{some}
-use mathlib.Core.Bool.{Bool, true, false, cond, and-true}
+use mathlib.Core.Bool.{true, and-true}
 use native.Mathlib.Omega.{arith}
 use lib.ListN.{length}
 use Rattle.laws.specs.BoolLaws.{both-right}
@@ -21,19 +21,8 @@ use Rattle.model.specs.Line.{Form, Word, Num, Item, shape, kinds, hasShape, num
 use Rattle.model.specs.Rules.{nth}
 use Rattle.lines.specs.Said.{numbersIn, saidAs, saidOf, saidItem, itemSaid}
 use Rattle.model.specs.Line.{size, numsOf}
+use Rattle.model.specs.LineLaws.{kind-has}
 use Rattle.lines.specs.Code.{sizeIn, pickOf, saidBy, writtenBy}
-
--- a kind that was found has its shape
-pub kind-has : (ks : List Kind) (fs : List (List ℕ)) (k : Kind) → kindIn ks fs ≡ Is k → hasShape (shape k) fs ≡ true
-unfolding kindIn
-kind-has [] fs k h = absurd (let z : _≡_ {A = ℕ} 0 1 = cc in omega arith)
-kind-has (j ∷ ks) fs k h = go (hasShape (shape j) fs) refl h (kind-has ks fs k)
-  where
-    go :
-        (t : Bool) → hasShape (shape j) fs ≡ t → cond t (Is j) (kindIn ks fs) ≡ Is k → (kindIn ks fs ≡ Is k → hasShape (shape k) fs ≡ true) →
-        hasShape (shape k) fs ≡ true
-    go true e h ih = let q : j ≡ k = cc in rw q at e
-    go false e h ih = ih h
 
 pub has-length : (ps : List Form) (fs : List (List ℕ)) → hasShape ps fs ≡ true → length ps ≡ length fs
 unfolding hasShape

@@ -1,24 +1,20 @@
 -- Laws of a loop that writes texts: before the first, one text more, after the last.
 use Prim.Native.Nat.{ℕ, _+_, _-_, _≤_, _<_}
-use mathlib.Core.Path.{_≡_, refl, ap, _∙_}
+use mathlib.Core.Path.{_≡_, refl}
 use mathlib.Core.List.{List, [], _++_}
 use native.Mathlib.Nat.{le-antisymm}
 use native.Mathlib.Omega.{arith}
-use lib.ListN.{length, take, drop, length-append, length-drop}
+use lib.ListN.{length, take, drop}
 use Rattle.laws.specs.Sums.{flat}
 use Rattle.laws.specs.Rows.{rows}
 use Rattle.search.specs.TableLaws.{flat-next, sum-prefix}
 use Rattle.letters.specs.Wrote.{Wrote, Joins}
-use Rattle.letters.specs.WroteLaws.{ends, rest-fits, both-wrote, both-fit}
+use Rattle.letters.specs.WroteLaws.{ends, rest-fits, both-wrote, both-fit, wrote-long}
 use Rattle.order.specs.RisingLaws.{length-flat}
 use Rattle.lister.specs.Filled.{Filled}
 
 pub wrote-none : {t : List ℕ} (o : List ℕ) → t ≡ [] → Wrote t o o 0
 wrote-none o e = rw e (record { count = refl; bytes = refl })
-
--- a text that fits leaves the buffer's length
-pub wrote-length : {t a b : List ℕ} {n : ℕ} → length t ≤ length a → Wrote t a b n → length b ≡ length a
-wrote-length {t} {a} h w = ap length (w .bytes) ∙ length-append t (drop (length t) a) ∙ omega (arith, length-drop (length t) a)
 
 module _ {A : Type 0} (f : A → List ℕ) (row : ℕ → A) where
   next-joins : (i : ℕ) → Joins (flat f (rows (i + 1) row)) (flat f (rows i row)) (f (row i))
@@ -55,4 +51,4 @@ module _ {A : Type 0} (f : A → List ℕ) (row : ℕ → A) where
         pub filled-more : Filled f row n a (take at b ++ (c ++ drop (length b - at) (drop at b))) (i + 1) (at + m)
         filled-more =
             let z = both-wrote (next-joins i) roomy (h .wrote) w in
-            record { within = omega arith; room = h .room; same = wrote-length roomy z; wrote = z }
+            record { within = omega arith; room = h .room; same = wrote-long roomy z; wrote = z }

@@ -3,7 +3,7 @@ use model::Refusal;
 use tables::PlanRecord;
 use writers::TextAnswer;
 ghost use mathlib.Core.Path.{_≡_};
-ghost use Prim.Native.Nat.{_<_, _≤_};
+ghost use Prim.Native.Nat.{_*_, _<_, _≤_};
 ghost use lib.Dec.{leb};
 ghost use lib.ListN.{length};
 ghost use Rattle.laws.specs.Sums.{flat};
@@ -67,8 +67,7 @@ fn put_wait(
     requires { ⌜ Fit r (now vt) (now mt) (now ts) × WaitAnswersIn r (now vt) (now mt) (now ts) (now wa) × (i < r .tasks) × (j < 8) × (j < cell (now ts) 29 i 4) × (length (placeText (systemIn r (now vt) (now mt) (now ts)) (taskRow (now ts) i) (lockRow (now ts) i) j) ≤ length (now out)) ⌝ }
     ensures { λ k. ⌜ Wrote (placeText (systemIn r (now (vt .entry)) (now (mt .entry)) (now (ts .entry))) (taskRow (now (ts .entry)) i) (lockRow (now (ts .entry)) i) j) (now (out .entry)) (now (out .exit)) k ⌝ }
 {
-    let m = cells::lock_cell(r, vt, mt, ts, i, j, 0);
-    if !cells::is_global(r, vt, mt, ts, m) {
+    if !sizes::is_wait(r, vt, mt, ts, i, j) {
         return 0;
     }
     let v = cells::task_cell(r, vt, mt, ts, i, 0);
@@ -272,19 +271,68 @@ fn put_answered(
     written(k)
 }
 
-// Inner: writes the listing of a plan in tables that passed the test for 9. With too little room 8, and the buffer as it was lent.
+// Works out the answers and the order of a plan, and writes its listing; tf, rf, wa and ta are scratch, with room for the plan's tasks.
+fn listing_with(
+    r: PlanRecord,
+    vt: &[u64],
+    mt: &[u64],
+    ts: &[u64],
+    tf: &mut [u64],
+    rf: &mut [u64],
+    wa: &mut [u64],
+    ta: &mut [u64],
+    out: &mut [u8],
+) -> TextAnswer
+    requires { ⌜ Fit r (now vt) (now mt) (now ts) × (r .tasks * 5 ≤ length (now tf)) × (r .tasks * 8 ≤ length (now rf)) × (r .tasks * 24 ≤ length (now wa)) × (r .tasks * 3 ≤ length (now ta)) ⌝ }
+    ensures { λ a. ⌜ a ≡ textAnswer (listing (systemIn r (now (vt .entry)) (now (mt .entry)) (now (ts .entry)))) (now (out .entry)) ⌝ }
+    ensures { λ a. ⌜ now (out .exit) ≡ textAfter (listing (systemIn r (now (vt .entry)) (now (mt .entry)) (now (ts .entry)))) (now (out .entry)) ⌝ }
+{
+    let mut va = [0u64; 48];
+    let mut order = [0u64; 64];
+    told::fill_answers(r, vt, mt, ts, tf, rf, &mut va, wa, ta);
+    let n = order::rising(r, vt, mt, ts, &mut order);
+    put_answered(r, vt, mt, ts, &va, wa, ta, &order, n, out)
+}
+
+// Writes the listing of a plan of at most 8 tasks, in tables of that size.
+fn listing_few(r: PlanRecord, vt: &[u64], mt: &[u64], ts: &[u64], out: &mut [u8]) -> TextAnswer
+    requires { ⌜ Fit r (now vt) (now mt) (now ts) × (r .tasks ≤ 8) ⌝ }
+    ensures { λ a. ⌜ a ≡ textAnswer (listing (systemIn r (now (vt .entry)) (now (mt .entry)) (now (ts .entry)))) (now (out .entry)) ⌝ }
+    ensures { λ a. ⌜ now (out .exit) ≡ textAfter (listing (systemIn r (now (vt .entry)) (now (mt .entry)) (now (ts .entry)))) (now (out .entry)) ⌝ }
+{
+    let mut tf = [0u64; 40];
+    let mut rf = [0u64; 64];
+    let mut wa = [0u64; 192];
+    let mut ta = [0u64; 24];
+    listing_with(r, vt, mt, ts, &mut tf, &mut rf, &mut wa, &mut ta, out)
+}
+
+// Writes the listing of a plan of any size, in tables for 64 tasks.
+fn listing_many(r: PlanRecord, vt: &[u64], mt: &[u64], ts: &[u64], out: &mut [u8]) -> TextAnswer
+    requires { ⌜ Fit r (now vt) (now mt) (now ts) ⌝ }
+    ensures { λ a. ⌜ a ≡ textAnswer (listing (systemIn r (now (vt .entry)) (now (mt .entry)) (now (ts .entry)))) (now (out .entry)) ⌝ }
+    ensures { λ a. ⌜ now (out .exit) ≡ textAfter (listing (systemIn r (now (vt .entry)) (now (mt .entry)) (now (ts .entry)))) (now (out .entry)) ⌝ }
+{
+    let mut tf = [0u64; 320];
+    let mut rf = [0u64; 512];
+    let mut wa = [0u64; 1536];
+    let mut ta = [0u64; 192];
+    listing_with(r, vt, mt, ts, &mut tf, &mut rf, &mut wa, &mut ta, out)
+}
+
+// Inner: writes the listing of a plan in tables that are fit for the figures' code, as those that passed the test for 9 are. With too little room 8, and the buffer as it was lent.
+// A plan of at most 8 tasks is worked out in tables for 8, so that little is cleared; a larger one in tables for 64.
 pub fn listing_into(r: PlanRecord, vt: &[u64], mt: &[u64], ts: &[u64], out: &mut [u8]) -> TextAnswer
     requires { ⌜ Fit r (now vt) (now mt) (now ts) ⌝ }
     ensures { λ a. ⌜ a ≡ textAnswer (listing (systemIn r (now (vt .entry)) (now (mt .entry)) (now (ts .entry)))) (now (out .entry)) ⌝ }
     ensures { λ a. ⌜ now (out .exit) ≡ textAfter (listing (systemIn r (now (vt .entry)) (now (mt .entry)) (now (ts .entry)))) (now (out .entry)) ⌝ }
 {
-    let mut va = [0u64; 48];
-    let mut wa = [0u64; 1536];
-    let mut ta = [0u64; 192];
-    let mut order = [0u64; 64];
-    told::fill_answers(r, vt, mt, ts, &mut va, &mut wa, &mut ta);
-    let n = order::rising(r, vt, mt, ts, &mut order);
-    put_answered(r, vt, mt, ts, &va, &wa, &ta, &order, n, out)
+    let n = r.tasks;
+    if n <= 8 {
+        listing_few(r, vt, mt, ts, out)
+    } else {
+        listing_many(r, vt, mt, ts, out)
+    }
 }
 
 // Writes the listing of the plan in lent tables into a lent buffer: 9 first, then 8.

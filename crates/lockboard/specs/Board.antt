@@ -14,6 +14,7 @@ use Rattle.model.specs.declared.Fault.the-variants.{Clear, Bad}
 use Rattle.model.specs.Refusals.{unless}
 use Rattle.model.specs.Rules.{within}
 use Rattle.lockboard.specs.Facts.{Facts}
+pub use Rattle.seats.specs.Seats.{seat}
 pub use Rattle.supplies.specs.Supplies.{reserve, underP}
 pub use Rattle.lockboard.specs.declared.Board.{Board}
 pub use Rattle.lockboard.specs.declared.Event.{Event}
@@ -25,10 +26,6 @@ pub use Rattle.lockboard.specs.declared.BoardAnswer.the-variants.{Grante
 pub use Rattle.lockboard.specs.declared.Outcome.{Outcome}
 
 -- WHAT THE BOARD HOLDS, by the names v, n and m: in this file the only lines that know the layout
-
--- the seat of task (v, n), 1 to 128
-abbrev pub seat : ℕ → ℕ → ℕ
-seat v n = (v - 1) * maxN + n
 
 -- "Per VCPU: budget left b, overrun left o, a stopped mark"
 abbrev pub leftOf : Board → ℕ → ℕ

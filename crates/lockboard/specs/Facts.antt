@@ -5,7 +5,6 @@ use lib.Dec.{eqb}
 use Rattle.laws.specs.Sums.{any}
 use Rattle.model.specs.declared.Policy.{Policy}
 use Rattle.model.specs.declared.OverrunChoice.{OverrunChoice}
-use Rattle.model.specs.Plan.{Task}
 use Rattle.model.specs.Lookup as lookup
 use Rattle.figures.specs.System.{System}
 use Rattle.figures.specs.Figures.{vcpuAt, overrunOf, locksIt}

@@ -75,7 +75,8 @@ impl Board {
         }
     }
 
-    fn refuse(self, k: Refusal) -> Outcome
+    // Refused: the board is as it was.
+    pub fn refuse(self, k: Refusal) -> Outcome
         ensures { λ r. ⌜ r ≡ refused self k ⌝ }
     {
         let a = BoardAnswer::Refused(k);

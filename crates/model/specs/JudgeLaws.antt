@@ -23,7 +23,14 @@ unfolding unless
 unless-clear true r f = (λ h. (refl, h), λ h. h .1)
 unless-clear false r f = (λ h. absurd (let z : _≡_ {A = ℕ} 0 1 = cc in omega arith), λ h. absurd (false≢true (h .0)))
 
-lines-lack : (is : List Item) → eachLacks lf (linesOf is) ≡ true
+-- its first test, and the rest
+pub clear-test : (b : Bool) (r : Refusal) (f : Fault) → unless b r f ≡ Clear → b ≡ true
+clear-test b r f h = unless-clear b r f .0 h .0
+
+pub clear-rest : (b : Bool) (r : Refusal) (f : Fault) → unless b r f ≡ Clear → f ≡ Clear
+clear-rest b r f h = unless-clear b r f .0 h .1
+
+pub lines-lack : (is : List Item) → eachLacks lf (linesOf is) ≡ true
 unfolding linesOf eachLacks
 lines-lack [] = refl
 lines-lack (i ∷ is) = both (lacks lf (lineOf i)) (eachLacks lf (linesOf is)) (line-lacks i) (lines-lack is)
@@ -35,7 +42,7 @@ nil-is (x ∷ l) h = absurd (let z : _≡_ {A = ℕ} 0 1 = cc in omega arith)
 module _ (J : Judge) where
   pub fault-allowed : (t : J .Seen) (i : Item) → fault J t i ≡ Clear → J .allowed t (i .kind) ≡ true
   unfolding fault
-  fault-allowed t i h = unless-clear _ _ _ .0 h .0
+  fault-allowed t i h = clear-test _ _ _ h
 
   -- an item that is allowed here is clear exactly when its numbers are written and the judge says no more
   pub fault-clear : (t : J .Seen) (i : Item) → J .allowed t (i .kind) ≡ true → (fault J t i ≡ Clear) ↔ ((written (shape (i .kind)) (i .nums) ≡ true) × (J .judged t i ≡ Clear))

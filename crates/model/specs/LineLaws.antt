@@ -54,11 +54,11 @@ kind-fields k ns = each-kind (λ k. kindIn kinds (fieldsOf (shape k) ns) ≡ Is 
     (refl, (refl, (refl, (refl, (refl, (refl, (refl, (refl, (refl, (refl, (refl, (refl, (refl, (refl, (refl, (refl, (refl, (refl, (refl, tt)))))))))))))))))))
     k
 
--- a kind that was found fits
-pub kind-fits : (ks : List Kind) (fs : List (List ℕ)) (k : Kind) → kindIn ks fs ≡ Is k → hasShape (shape k) fs ≡ true
+-- a kind that was found has its shape
+pub kind-has : (ks : List Kind) (fs : List (List ℕ)) (k : Kind) → kindIn ks fs ≡ Is k → hasShape (shape k) fs ≡ true
 unfolding kindIn
-kind-fits [] fs k h = absurd (let z : _≡_ {A = ℕ} 0 1 = cc in omega arith)
-kind-fits (j ∷ ks) fs k h = go (hasShape (shape j) fs) refl h (kind-fits ks fs k)
+kind-has [] fs k h = absurd (let z : _≡_ {A = ℕ} 0 1 = cc in omega arith)
+kind-has (j ∷ ks) fs k h = go (hasShape (shape j) fs) refl h (kind-has ks fs k)
   where
     go :
         (t : Bool) → hasShape (shape j) fs ≡ t → cond t (Is j) (kindIn ks fs) ≡ Is k → (kindIn ks fs ≡ Is k → hasShape (shape k) fs ≡ true) →
@@ -120,4 +120,4 @@ line-item l i h = go (kindIn kinds (pieces tab l)) refl h
     go Nothing e q = absurd (let z : _≡_ {A = ℕ} 0 1 = cc in omega arith)
     go (Is k) e q =
         let j : record { kind = k; nums = numbers (shape k) (pieces tab l) } ≡ i = cc in
-        rw (← j) (λ w. sym (joined-pieces tab l) ∙ ap (joined tab) (fields-numbers (shape k) (pieces tab l) (kind-fits kinds (pieces tab l) k e) w))
+        rw (← j) (λ w. sym (joined-pieces tab l) ∙ ap (joined tab) (fields-numbers (shape k) (pieces tab l) (kind-has kinds (pieces tab l) k e) w))

@@ -1,10 +1,13 @@
 -- Laws of lists: rows that pass a test, rows that rise, and the end of a list.
+use Prim.Native.Nat.{ℕ, _<_}
 use mathlib.Core.Path.{_≡_, refl}
 use mathlib.Core.List.{List, [], _∷_, _++_}
 use mathlib.Core.Bool.{Bool, true, false, _||_, false≢true}
+use native.Mathlib.Omega.{arith}
 use Rattle.laws.specs.BoolLaws.{either-left, either-right}
 use Rattle.laws.specs.Bytes.{isNil}
 use Rattle.laws.specs.Sums.{any, only, Each, Chain}
+use Rattle.laws.specs.SumLaws.{each-map}
 use Rattle.model.specs.Rules.{last}
 
 -- what holds of the rows that pass holds of each row if it passes
@@ -36,6 +39,11 @@ module _ {A : Type 0} (R : A → A → Type 0) (d : A) where
   pub chain-from : (Q : A → Type 0) (xs : List A) → ((x : A) → Q x → R d x) → Each Q xs → Chain R xs → Chain R (d ∷ xs)
   chain-from Q [] w e h = tt
   chain-from Q (x ∷ xs) w e h = (w x (e .0), h)
+
+-- where rows rise by a number of theirs, the first is below each that follows
+pub rising-above : {A : Type 0} (f : A → ℕ) (x : A) (xs : List A) → Chain (λ r s. f r < f s) (x ∷ xs) → Each (λ y. f x < f y) xs
+rising-above f x [] h = tt
+rising-above f x (y ∷ xs) h = (h .0, each-map xs (λ z l. omega (arith, h .0, l)) (rising-above f y xs (h .1)))
 
 -- a list that goes on is not empty
 pub append-some : {A : Type 0} (xs : List A) (y : A) (ys : List A) → isNil (xs ++ (y ∷ ys)) ≡ false

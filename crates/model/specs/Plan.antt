@@ -1,6 +1,6 @@
 -- A plan: what its lines declare, in their order.
 use Prim.Native.Nat.{ℕ}
-use mathlib.Core.List.{List}
+use mathlib.Core.List.{List, []}
 use Rattle.laws.specs.Sums.{flat}
 pub use Rattle.model.specs.declared.Policy.{Policy}
 pub use Rattle.model.specs.declared.Policy.the-variants.{Periodic, Deferrable}
@@ -60,3 +60,13 @@ pub record Plan : Type 0 where
 -- the tasks of a plan in the order of its lines
 unfoldable pub tasksOf : List Section → List Task
 tasksOf ss = flat (λ s. s .tasks) ss
+
+-- what is said of a VCPU, a task or a lock that the plan lacks: zeros
+abbrev pub noVcpu : Vcpu
+noVcpu = record { v = 0; guest = 0; core = 0; budget = 0; period = 0 }
+
+abbrev pub noTask : Task
+noTask = record { v = 0; n = 0; period = 0; first = 0; locks = [] }
+
+abbrev pub noLock : Lock
+noLock = record { m = 0; ticks = 0; after = 0 }

@@ -4,13 +4,13 @@ use Prim.Native.Nat.{ℕ, _+_}
 use mathlib.Core.Path.{_≡_}
 use mathlib.Core.List.{List, [], _∷_}
 use mathlib.Core.Option.{Option, some, none}
-use mathlib.Core.Bool.{Bool, true, false, cond, _&&_}
+use mathlib.Core.Bool.{Bool, true, cond, _&&_}
 use lib.Dec.{eqb}
 use Rattle.laws.specs.Bytes.{pieces, isNil}
 use Rattle.model.specs.Limits.{lf}
 use Rattle.model.specs.Refusals.{Refusal, Shape, Number, Fault, Clear, Bad, unless}
 use Rattle.model.specs.Line.{Item, Kind, shape, written, itemOf, headOr, PlanLine, PolicyPO, PolicyPN, PolicyDO, PolicyDN, VcpuLine, MutexG, MutexL, OpenLine, GuestLine, TaskLine, RunLine, LockLine, EndLine, AskLine, FreeLine, UseLine, TopLine, ShowLine}
-use Rattle.model.specs.Plan.{Policy, Periodic, Deferrable, OverrunChoice, WithOverrun, WithoutOverrun, Vcpu, Owner, Global, Local, Mutex, Open, Lock, Task, Section, Plan}
+use Rattle.model.specs.Plan.{Policy, Periodic, Deferrable, OverrunChoice, WithOverrun, WithoutOverrun, Vcpu, Global, Local, Mutex, Open, Lock, Task, Section, Plan}
 use Rattle.model.specs.Rules.{Known, start, nth, vcpuOf, follows, rule, learnt}
 
 -- A JUDGE OF ITEMS, with what it has seen: may a line of a kind stand here, what else is wrong with it, what is seen after it, may the plan stop here

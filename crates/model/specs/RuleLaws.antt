@@ -6,8 +6,8 @@ use mathlib.Core.Logic.{_↔_, inl, inr}
 use mathlib.Core.Bool.{Bool, true, false, _||_, _&&_, and-true}
 use native.Mathlib.Omega.{arith}
 use lib.Dec.{eqb, leb, ltb}
-use borrow.Author.Tests.{eqb-true, eq-eqb, leb-true, le-leb, ltb-true, lt-ltb}
-use Rattle.laws.specs.BoolLaws.{both-left, both-right, both, either-left, either-right}
+use borrow.Author.Tests.{eqb-true, eq-eqb, leb-true, ltb-true, lt-ltb}
+use Rattle.laws.specs.BoolLaws.{both-left, both-right, both, either-left, either-right, leb-exactly}
 use Rattle.model.specs.Limits.{maxGuest, maxM, maxV, maxN, maxPeriod, maxLength, maxTasks, maxLocks}
 use Rattle.model.specs.Refusals.{Refusal, Clear, unless}
 use Rattle.model.specs.Line.{shape, written, VcpuLine, OpenLine, GuestLine, TaskLine, RunLine, LockLine, EndLine}
@@ -24,8 +24,9 @@ use Rattle.model.specs.LookupLaws.{of-has, reach-has}
 and-both : (a b : Bool) → ((a && b) ≡ true) ↔ ((a ≡ true) × (b ≡ true))
 and-both a b = (λ h. (both-left a b h, both-right a b h), λ h. both a b (h .0) (h .1))
 
-leb-le : (a b : ℕ) → (leb a b ≡ true) ↔ (a ≤ b)
-leb-le a b = (leb-true a b, le-leb a b)
+-- what a number in range is
+pub in-range : (x lo hi : ℕ) → within x lo hi ≡ true → (lo ≤ x) × (x ≤ hi)
+in-range x lo hi e = (leb-true lo x (both-left (leb lo x) (leb x hi) e), leb-true x hi (both-right (leb lo x) (leb x hi) e))
 
 rises-pair : (a b c d : ℕ) → (rises a b c d ≡ true) ↔ PairRises a b c d
 rises-pair a b c d = (
@@ -43,7 +44,7 @@ rises-pair a b c d = (
 unless-last : (b : Bool) (r : Refusal) → (unless b r Clear ≡ Clear) ↔ (b ≡ true)
 unless-last b r = (λ h. unless-clear b r Clear .0 h .0, λ h. unless-clear b r Clear .1 (h, refl))
 
-ruleset tests = (unless-last, unless-clear, and-true, and-both, leb-le, rises-pair)
+ruleset tests = (unless-last, unless-clear, and-true, and-both, leb-exactly, rises-pair)
 
 module _ (t : Known) where
   pub vcpu-clear : (r : Vcpu) → follows (t .phase) VcpuLine ≡ true → (fault rules t (vcpuItem r) ≡ Clear) ↔ (VcpuValid r × (lastV (t .vcpus) < r .v))

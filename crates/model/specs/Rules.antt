@@ -1,12 +1,12 @@
 -- What is wrong with a line after the lines before it, and what is known after it.
 use Prim.Native.Nat.{ℕ, zero, suc, _+_}
 use mathlib.Core.List.{List, [], _∷_, _++_, tail}
-use mathlib.Core.Bool.{Bool, true, false, cond, _&&_, _||_, not}
+use mathlib.Core.Bool.{Bool, false, _&&_, _||_}
 use lib.Dec.{eqb, leb, ltb}
 use Rattle.model.specs.Limits.{maxV, maxGuest, maxCore, maxM, maxN, maxPeriod, maxLength, maxTasks, maxLocks}
-use Rattle.model.specs.Refusals.{Refusal, Range, Order, Missing, Outside, TooMany, Fault, Clear, unless}
+use Rattle.model.specs.Refusals.{Range, Order, Missing, Outside, TooMany, Fault, Clear, unless}
 use Rattle.model.specs.Line.{Item, headOr, Kind, PlanLine, PolicyPO, PolicyPN, PolicyDO, PolicyDN, VcpuLine, MutexG, MutexL, OpenLine, GuestLine, TaskLine, RunLine, LockLine, EndLine, AskLine, FreeLine, UseLine, TopLine, ShowLine}
-use Rattle.model.specs.Plan.{Vcpu, Owner, Global, Local, Mutex, Open}
+use Rattle.model.specs.Plan.{Vcpu, Global, Local, Mutex, Open}
 use Rattle.model.specs.Lookup.{hasVcpu, isVcpuOf, hasGuest, hasMutex, global, reaches}
 
 -- WHERE A LINE MAY STAND: by the line before it, told by a number

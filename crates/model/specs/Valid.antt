@@ -8,7 +8,7 @@ use lib.ListN.{length}
 use Rattle.laws.specs.Sums.{Each, Chain, Some}
 use Rattle.model.specs.Limits.{maxV, maxGuest, maxCore, maxM, maxN, maxPeriod, maxLength, maxTasks, maxLocks}
 use Rattle.model.specs.Plan.{Vcpu, Owner, Global, Local, Mutex, Open, Lock, Task, Section, Plan, tasksOf}
-use Rattle.model.specs.Lookup.{hasVcpu, isVcpuOf, hasGuest, global, opened, reaches}
+use Rattle.model.specs.Lookup.{hasVcpu, isVcpuOf, hasGuest, global, reaches}
 
 -- x is in the range lo to hi
 abbrev pub In : ℕ → ℕ → ℕ → Type 0

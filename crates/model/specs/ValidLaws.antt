@@ -14,9 +14,9 @@ use Rattle.laws.specs.Sums.{Each, Chain, Some, flat}
 use Rattle.model.specs.Limits.{maxTasks, maxLocks}
 use Rattle.model.specs.Refusals.{unless}
 use Rattle.model.specs.Line.{Item, shape, written, PlanLine, GuestLine, EndLine}
-use Rattle.model.specs.Plan.{Policy, Periodic, Deferrable, OverrunChoice, WithOverrun, WithoutOverrun, Vcpu, Owner, Global, Local, Mutex, Open, Lock, Task, Section, Plan, tasksOf}
+use Rattle.model.specs.Plan.{Policy, Periodic, Deferrable, OverrunChoice, WithOverrun, WithoutOverrun, Vcpu, Owner, Global, Local, Mutex, Open, Lock, Task, Section, Plan, tasksOf, noVcpu, noTask}
 use Rattle.model.specs.Text.{item, policyKind, ownedItem, openItem, vcpuItems, mutexItems, openItems, lockItems, taskItems, sectionItems, itemsOf}
-use Rattle.model.specs.Rules.{Known, known, start, within, follows, rule, phase, learn, learnt, withMutex, last, vcpuOf}
+use Rattle.model.specs.Rules.{Known, known, start, within, follows, rule, phase, learn, learnt, withMutex, last}
 use Rattle.model.specs.Reading.{rules, fault, Passes}
 use Rattle.model.specs.Valid.{PairRises, VcpuValid, MutexValid, OpenValid, LockValid, TaskValid, SectionValid, Valid}
 use Rattle.model.specs.ListLaws.{chain-rest, chain-from, last-append}
@@ -42,17 +42,11 @@ lastLocks l [] = l
 lastLocks l (r ∷ rs) = lastLocks (0 + length (r .locks)) rs
 
 -- before the first row of a table
-abbrev noVcpu : Vcpu
-noVcpu = vcpuOf []
-
 abbrev noMutex : Mutex
 noMutex = record { m = 0; owner = Global }
 
 abbrev noOpen : Open
 noOpen = record { m = 0; guest = 0 }
-
-abbrev noTask : Task
-noTask = record { v = 0; n = 0; period = 0; first = 0; locks = [] }
 
 abbrev noSection : Section
 noSection = record { guest = 0; tasks = [] }

@@ -1,4 +1,8 @@
-// The types that a plan is made of in code and in definitions alike. What they mean stands in specs/.
+// The types that a plan is made of in code and in definitions alike, and small steps that several crates take. What they mean stands in specs/.
+ghost use mathlib.Core.Path.{_≡_};
+ghost use Prim.Native.Nat.{max};
+ghost use Rattle.model.specs.Refusals as refusals;
+ghost use Rattle.model.specs.Rules as rules;
 
 // Policy p: a VCPU is a periodic server (P) or a deferrable one (D).
 pub enum Policy {
@@ -64,4 +68,25 @@ pub enum Kind {
 pub enum Found {
     Is(Kind),
     Nothing,
+}
+
+// The refusal r, unless the test holds; then what the later tests say.
+pub fn unless(ok: bool, r: Refusal, rest: Fault) -> Fault
+    ensures { λ f. ⌜ f ≡ refusals.unless ok r rest ⌝ }
+{
+    if ok { rest } else { Fault::Bad(r) }
+}
+
+// Is x from lo to hi?
+pub fn within(x: u64, lo: u64, hi: u64) -> bool
+    ensures { λ r. ⌜ r ≡ rules.within x lo hi ⌝ }
+{
+    (lo <= x) & (x <= hi)
+}
+
+// The larger of two numbers.
+pub fn larger(a: u64, b: u64) -> u64
+    ensures { λ x. ⌜ x ≡ max a b ⌝ }
+{
+    if a < b { b } else { a }
 }

@@ -1,11 +1,8 @@
 -- Reading a plan into lent tables: the answer, and the tables after it, for every list of bytes and all tables.
 use Prim.Native.Nat.{ℕ}
 use mathlib.Core.List.{List}
-use mathlib.Core.Bool.{Bool, true, false}
 use Rattle.laws.specs.Choice.{if_then_else_}
-use Rattle.model.specs.declared.Refusal.{Refusal}
 use Rattle.model.specs.declared.Refusal.the-variants.{Room}
-use Rattle.model.specs.Plan.{Plan}
 use Rattle.model.specs.Reading.{Reading, Accepts, Refuses, reading}
 use Rattle.tables.specs.Layout.{Tables, filled, recordOf}
 use Rattle.tables.specs.Given.{roomy}

@@ -43,7 +43,7 @@ use Rattle.tallies.specs.TallyLaws.{text-record}
 use Rattle.filler.specs.Fill.{filledBy, vcpuPut, mutexPut, openPut, taskPut}
 use Rattle.filler.specs.PlanLaws.{tablesBy, text-tables}
 use Rattle.reader.specs.Into.{PlanAnswer, Accepted, Refused, answerInto, tablesInto, planAnswer, tablesAfter}
-use Rattle.reader.specs.Judged.{answerBy, judgedFrom, refusedBy, finishBy, roomyBy, roomOr, withRoom, isAccepted, filledIf}
+use Rattle.reader.specs.Judged.{answerBy, judgedFrom, refusedBy, finishBy, roomyBy, roomOr, withRoom, isAccepted, leftFrom, linesLeft, leftIf}
 
 -- ONE LINE, the one that begins at `at`
 
@@ -177,19 +177,58 @@ pub after-refused : (s : List ℕ) (t : Tables) (x : Refusal) (l : ℕ) → read
 unfolding tablesAfter
 after-refused s t x l e = ap (λ y. tablesInto y t) e
 
+-- lines with no fault leave what lines write
+left-all :
+    (put : Tally → Said → List ℕ → List ℕ) (t : Seen) (c : Tally) (d : List ℕ) (n : ℕ) (ls : List (List ℕ)) → judge coded t n ls ≡ Faultless →
+    leftFrom put t c d ls ≡ filledBy put c d ls
+unfolding leftFrom filledBy judge
+left-all put t c d n [] e = refl
+left-all put t c d n (l ∷ []) e = refl
+left-all put t c d n (l ∷ k ∷ ls) e =
+    go (faultOf coded t (saidItem (saidOf l))) (rw (← said-item l) e)
+    (left-all put (nextOf coded t (saidItem (saidOf l))) (tallyAfter c (saidOf l)) (put c (saidOf l) d) (n + 1) (k ∷ ls))
+  where
+    next : Seen
+    next = nextOf coded t (saidItem (saidOf l))
+
+    go :
+        (f : Fault) → onward coded f n (judge coded next (n + 1) (k ∷ ls)) ≡ Faultless →
+        (judge coded next (n + 1) (k ∷ ls) ≡ Faultless →
+        leftFrom put next (tallyAfter c (saidOf l)) (put c (saidOf l) d) (k ∷ ls) ≡ filledBy put (tallyAfter c (saidOf l)) (put c (saidOf l) d) (k ∷ ls)) →
+        cond (isClear f) (leftFrom put next (tallyAfter c (saidOf l)) (put c (saidOf l) d) (k ∷ ls)) d ≡ filledBy put (tallyAfter c (saidOf l)) (put c (saidOf l) d) (k ∷ ls)
+    go Clear q h = h q
+    go (Bad x) q h = absurd (let z : _≡_ {A = ℕ} 0 1 = cc in omega arith)
+
+-- the lines of an accepted plan have none
+judged-clear : (s : List ℕ) (p : Plan) → reading s ≡ Accepts p → judge coded start 1 (pieces lf s) ≡ Faultless
+unfolding readingBy
+judged-clear s p e = go (judge coded start 1 (pieces lf s)) refl
+  where
+    go : (v : Verdict) → judge coded start 1 (pieces lf s) ≡ v → v ≡ Faultless
+    go Faultless q = refl
+    go (FirstBad x l) q =
+        let h : Refuses x l ≡ Accepts p = sym (ap (λ v. answer v (planOf (itemsIn (pieces lf s)))) q) ∙ same-reading s ∙ e in
+        absurd (let z : _≡_ {A = ℕ} 0 1 = cc in omega arith)
+
 pub record Left (s : List ℕ) (t : Tables) (on : Bool) : Type 0 where
-  pub vcpus : filledIf on vcpuPut s (t .vcpus) ≡ tablesAfter s t .vcpus
-  pub mutexes : filledIf on mutexPut s (t .mutexes) ≡ tablesAfter s t .mutexes
-  pub opens : filledIf on openPut s (t .opens) ≡ tablesAfter s t .opens
-  pub tasks : filledIf on taskPut s (t .tasks) ≡ tablesAfter s t .tasks
+  pub vcpus : leftIf on vcpuPut s (t .vcpus) ≡ tablesAfter s t .vcpus
+  pub mutexes : leftIf on mutexPut s (t .mutexes) ≡ tablesAfter s t .mutexes
+  pub opens : leftIf on openPut s (t .opens) ≡ tablesAfter s t .opens
+  pub tasks : leftIf on taskPut s (t .tasks) ≡ tablesAfter s t .tasks
 
 left-kept : (s : List ℕ) (t : Tables) → tablesAfter s t ≡ t → Left s t false
-unfolding filledIf
+unfolding leftIf
 left-kept s t e = record { vcpus = ap (λ x. x .vcpus) (sym e); mutexes = ap (λ x. x .mutexes) (sym e); opens = ap (λ x. x .opens) (sym e); tasks = ap (λ x. x .tasks) (sym e) }
 
-left-filled : (s : List ℕ) (t : Tables) → tablesAfter s t ≡ tablesBy s t → Left s t true
-unfolding filledIf tablesBy
-left-filled s t e = record { vcpus = ap (λ x. x .vcpus) (sym e); mutexes = ap (λ x. x .mutexes) (sym e); opens = ap (λ x. x .opens) (sym e); tasks = ap (λ x. x .tasks) (sym e) }
+left-filled : (s : List ℕ) (t : Tables) → judge coded start 1 (pieces lf s) ≡ Faultless → tablesAfter s t ≡ tablesBy s t → Left s t true
+unfolding leftIf tablesBy
+left-filled s t q e =
+    record {
+      vcpus = left-all vcpuPut start blank (t .vcpus) 1 (pieces lf s) q ∙ ap (λ x. x .vcpus) (sym e);
+      mutexes = left-all mutexPut start blank (t .mutexes) 1 (pieces lf s) q ∙ ap (λ x. x .mutexes) (sym e);
+      opens = left-all openPut start blank (t .opens) 1 (pieces lf s) q ∙ ap (λ x. x .opens) (sym e);
+      tasks = left-all taskPut start blank (t .tasks) 1 (pieces lf s) q ∙ ap (λ x. x .tasks) (sym e);
+    }
 
 pub tables-left : (s : List ℕ) (t : Tables) → Left s t (isAccepted (planAnswer s t))
 unfolding planAnswer
@@ -198,7 +237,7 @@ tables-left s t = go (reading s) refl
     at : (p : Plan) → reading s ≡ Accepts p → (b : Bool) → roomy (recordOf p) t ≡ b → Left s t (isAccepted (if b then Accepted (recordOf p) else Refused Room 0))
     at p e true q =
         let h = read-text s p e in
-        left-filled s t (after-filled s t p e q ∙ sym (ap (λ x. tablesBy x t) (h .1) ∙ text-tables p (h .0) t (roomy-exactly (recordOf p) t .0 q)))
+        left-filled s t (judged-clear s p e) (after-filled s t p e q ∙ sym (ap (λ x. tablesBy x t) (h .1) ∙ text-tables p (h .0) t (roomy-exactly (recordOf p) t .0 q)))
     at p e false q = left-kept s t (after-kept s t p e q)
 
     go : (x : Reading) → reading s ≡ x → Left s t (isAccepted (answerInto x t))
@@ -221,14 +260,13 @@ module _ (t : Seen) (f : Found) (a b c d e : ℕ) where
   pub seen-nothing : f ≡ Nothing → t ≡ nextOf coded t (said.itemAs f a b c d e)
   seen-nothing g = ap (λ f. nextOf coded t (said.itemAs f a b c d e)) (sym g)
 
-pub filled-on :
-    (on : Bool) (put : Tally → Said → List ℕ → List ℕ) (s d e : List ℕ) → on ≡ true → e ≡ filledBy put blank d (pieces lf s) → e ≡ filledIf on put s d
-unfolding filledIf
-filled-on on put s d e h q = simp h q
+pub left-on : (on : Bool) (put : Tally → Said → List ℕ → List ℕ) (s d e : List ℕ) → on ≡ true → e ≡ linesLeft put s d → e ≡ leftIf on put s d
+unfolding leftIf
+left-on on put s d e h q = simp h q
 
-pub filled-off : (on : Bool) (put : Tally → Said → List ℕ → List ℕ) (s d : List ℕ) → on ≡ false → d ≡ filledIf on put s d
-unfolding filledIf
-filled-off on put s d h = simp h
+pub left-off : (on : Bool) (put : Tally → Said → List ℕ → List ℕ) (s d : List ℕ) → on ≡ false → d ≡ leftIf on put s d
+unfolding leftIf
+left-off on put s d h = simp h
 
 pub room-by :
     (a z : PlanAnswer) (b : Bool) (r : PlanRecord) (v m o k : ℕ) → z ≡ roomOr b r → b ≡ roomyBy r v m o k → a ≡ Accepted r → z ≡ withRoom a v m o k

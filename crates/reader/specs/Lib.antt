@@ -1,7 +1,7 @@
 pub mod Into
 pub mod Judged
-pub mod Turns
 pub mod JudgedLaws
-pub mod TurnLaws
+pub mod LoopLaws
+pub mod Ample
 pub mod RoomLaws
 pub mod Claims

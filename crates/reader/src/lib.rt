@@ -1,26 +1,21 @@
-// The reader: any bytes into lent tables, or a refusal that changes nothing. What it answers stands in specs/Into.
+// The reader: any bytes into lent tables by `read_plan`, whose refusals change nothing that was lent; the loop below it is `read_lines`. What `read_plan` answers stands in specs/Into.
 use coded::Seen;
 use lines::Said;
 use model::Fault;
 use model::Found;
 use model::Refusal;
-use scan::Line;
 use tables::PlanRecord;
 use tallies::Tally;
 ghost use mathlib.Core.Path.{_≡_};
-ghost use mathlib.Core.Bool.{true, false};
-ghost use Prim.Native.Nat.{_+_};
 ghost use Rattle.laws.specs.Bytes.{pieces};
 ghost use Rattle.model.specs.Limits.{lf};
 ghost use Rattle.model.specs.Reading.{faultOf, nextOf};
-ghost use Rattle.tables.specs.Given.{isClear};
 ghost use Rattle.lines.specs.Said.{saidItem};
 ghost use Rattle.coded.specs.Coded as coded;
 ghost use Rattle.tallies.specs.Tally as tallies;
 ghost use Rattle.filler.specs.Fill as fills;
 ghost use Rattle.reader.specs.Into.{planAnswer, tablesAfter};
 ghost use Rattle.reader.specs.Judged as judged;
-ghost use Rattle.reader.specs.Turns as turns;
 
 // The answer to bytes offered as a plan: accepted with the plan record, or refused with number and line.
 pub enum PlanAnswer {
@@ -47,16 +42,6 @@ fn seen_in(t: Seen, s: Said) -> Seen
     match found {
         Found::Is(k) => judge::seen_after(t, k, s.a, s.b, s.c, s.d, s.e),
         Found::Nothing => t,
-    }
-}
-
-// Is nothing wrong?
-fn clear(f: Fault) -> bool
-    ensures { λ r. ⌜ r ≡ isClear f ⌝ }
-{
-    match f {
-        Fault::Clear => true,
-        Fault::Bad(_) => false,
     }
 }
 
@@ -87,86 +72,55 @@ fn finish(ok: bool, t: Tally, n: usize) -> PlanAnswer
     }
 }
 
-// What is seen and tallied before a line; and once it is done, the answer.
-struct Turn {
-    seen: Seen,
-    tally: Tally,
-    done: bool,
-    answer: PlanAnswer,
-}
-
-// Before the first line.
-fn first() -> Turn
-    ensures { λ r. ⌜ r ≡ turns.first ⌝ }
+// Inner; for lent tables call `read_plan`. Judges bytes offered as a plan line by line, and writes what each line before the first with a fault says. A refusal leaves these rows in the tables.
+// The answer is the one for tables with room: what has no place in a shorter table is dropped.
+pub fn read_lines(
+    src: &[u8],
+    vt: &mut [u64],
+    mt: &mut [u64],
+    ot: &mut [u64],
+    kt: &mut [u64],
+) -> PlanAnswer
+    ensures { λ r. ⌜ r ≡ judged.judgedFrom coded.start tallies.blank 1 (pieces lf (now (src .entry))) ⌝ }
+    ensures { λ r. ⌜ now (vt .exit) ≡ judged.linesLeft fills.vcpuPut (now (src .entry)) (now (vt .entry)) ⌝ }
+    ensures { λ r. ⌜ now (mt .exit) ≡ judged.linesLeft fills.mutexPut (now (src .entry)) (now (mt .entry)) ⌝ }
+    ensures { λ r. ⌜ now (ot .exit) ≡ judged.linesLeft fills.openPut (now (src .entry)) (now (ot .entry)) ⌝ }
+    ensures { λ r. ⌜ now (kt .exit) ≡ judged.linesLeft fills.taskPut (now (src .entry)) (now (kt .entry)) ⌝ }
 {
-    Turn {
-        seen: judge::start(),
-        tally: tallies::blank(),
-        done: false,
-        answer: PlanAnswer::Refused {
-            number: Refusal::Shape,
-            line: 0,
-        },
+    let mut t = judge::start();
+    let mut c = tallies::blank();
+    let mut at = 0;
+    let mut n: usize = 1;
+    loop {
+        let r = scan::read_line(src, at, n);
+        let l = r.line;
+        if !l.ended {
+            return finish(judge::ready(t) & l.empty, c, n);
+        }
+        let s = l.said;
+        let f = fault_in(t, s);
+        if !tables::is_clear(f) {
+            return refused(f, n);
+        }
+        filler::put_line(c, s, vt, mt, ot, kt);
+        let u = seen_in(t, s);
+        let v = tallies::tally_after(c, s);
+        t = u;
+        c = v;
+        at = r.at;
+        n = r.number;
     }
 }
 
-// One turn: line n is judged, or what follows the last LF.
-fn turned(t: Turn, l: Line, n: usize) -> Turn
-    ensures { λ r. ⌜ r ≡ turns.turned t l n ⌝ }
-{
-    let seen = t.seen;
-    let tally = t.tally;
-    let said = l.said;
-    if !l.ended {
-        let end = finish(judge::ready(seen) & l.empty, tally, n);
-        return Turn {
-            seen: seen,
-            tally: tally,
-            done: true,
-            answer: end,
-        };
-    }
-    let f = fault_in(seen, said);
-    if !clear(f) {
-        let bad = refused(f, n);
-        return Turn {
-            seen: seen,
-            tally: tally,
-            done: true,
-            answer: bad,
-        };
-    }
-    let a = t.answer;
-    let u = seen_in(seen, said);
-    let v = tallies::tally_after(tally, said);
-    Turn {
-        seen: u,
-        tally: v,
-        done: false,
-        answer: a,
-    }
-}
-
-// The answer, once it is done.
-fn answer_of(t: Turn) -> PlanAnswer
-    ensures { λ r. ⌜ r ≡ t .answer ⌝ }
-{
-    let a = t.answer;
-    a
-}
-
-// The answer to bytes offered as a plan, for tables with room.
+// The answer alone, for tables with room: what is written goes into tables of one number, and is dropped.
 fn judge_lines(src: &[u8]) -> PlanAnswer
     ensures { λ r. ⌜ r ≡ judged.judgedFrom coded.start tallies.blank 1 (pieces lf (now (src .entry))) ⌝ }
 {
-    let mut r = scan::new(src);
-    let mut t = first();
-    while !t.done {
-        let l = scan::next_line(r);
-        t = turned(t, l, scan::line_number(r));
-        r = scan::moved(r, l.next);
-    }
-    answer_of(t)
+    let mut vt = [0u64; 1];
+    let mut mt = [0u64; 1];
+    let mut ot = [0u64; 1];
+    let mut kt = [0u64; 1];
+    read_lines(src, &mut vt, &mut mt, &mut ot, &mut kt)
 }
 
 // Have tables of these lengths room for a plan's rows?
@@ -201,7 +155,7 @@ fn with_room(a: PlanAnswer, v: usize, m: usize, o: usize, k: usize) -> PlanAnswe
 }
 
 // Is a plan accepted?
-fn accepted(a: PlanAnswer) -> bool
+pub fn is_accepted(a: PlanAnswer) -> bool
     ensures { λ r. ⌜ r ≡ judged.isAccepted a ⌝ }
 {
     match a {
@@ -210,15 +164,15 @@ fn accepted(a: PlanAnswer) -> bool
     }
 }
 
-// Writes the rows of the lines into the tables where `on`; else leaves them as they were.
+// Writes what the lines say into the tables where `on`; else leaves them as they were.
 fn fill_if(on: bool, src: &[u8], vt: &mut [u64], mt: &mut [u64], ot: &mut [u64], kt: &mut [u64])
-    ensures { λ r. ⌜ now (vt .exit) ≡ judged.filledIf on fills.vcpuPut (now (src .entry)) (now (vt .entry)) ⌝ }
-    ensures { λ r. ⌜ now (mt .exit) ≡ judged.filledIf on fills.mutexPut (now (src .entry)) (now (mt .entry)) ⌝ }
-    ensures { λ r. ⌜ now (ot .exit) ≡ judged.filledIf on fills.openPut (now (src .entry)) (now (ot .entry)) ⌝ }
-    ensures { λ r. ⌜ now (kt .exit) ≡ judged.filledIf on fills.taskPut (now (src .entry)) (now (kt .entry)) ⌝ }
+    ensures { λ r. ⌜ now (vt .exit) ≡ judged.leftIf on fills.vcpuPut (now (src .entry)) (now (vt .entry)) ⌝ }
+    ensures { λ r. ⌜ now (mt .exit) ≡ judged.leftIf on fills.mutexPut (now (src .entry)) (now (mt .entry)) ⌝ }
+    ensures { λ r. ⌜ now (ot .exit) ≡ judged.leftIf on fills.openPut (now (src .entry)) (now (ot .entry)) ⌝ }
+    ensures { λ r. ⌜ now (kt .exit) ≡ judged.leftIf on fills.taskPut (now (src .entry)) (now (kt .entry)) ⌝ }
 {
     if on {
-        filler::fill(src, vt, mt, ot, kt);
+        read_lines(src, vt, mt, ot, kt);
     }
 }
 
@@ -238,6 +192,6 @@ pub fn read_plan(
 {
     let a = judge_lines(src);
     let b = with_room(a, vt.len(), mt.len(), ot.len(), kt.len());
-    fill_if(accepted(b), src, vt, mt, ot, kt);
+    fill_if(is_accepted(b), src, vt, mt, ot, kt);
     b
 }

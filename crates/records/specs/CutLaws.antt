@@ -2,31 +2,27 @@
 use Prim.Native.Nat.{ℕ, _+_, _*_, _≤_}
 use mathlib.Core.Path.{_≡_, refl, ap, sym, _∙_}
 use mathlib.Core.List.{List, _++_, append-assoc}
-use mathlib.Core.Bool.{Bool, true, false, false≢true}
+use mathlib.Core.Bool.{Bool, true, false}
 use native.Mathlib.Omega.{arith}
 use borrow.Author.Tests.{ltb-true, ltb-false}
 use lib.Dec.{ltb}
 use lib.ListN.{length, take, drop, length-append, length-drop, take-append-drop}
 use lib.Seq.{take-all, take-at, drop-append-le, length-take-le}
 use Rattle.laws.specs.Sums.{flat}
-use Rattle.laws.specs.SumLaws.{each-map}
+use Rattle.laws.specs.SumLaws.{each-map, flat-append}
+use Rattle.laws.specs.BoolLaws.{both-ways}
 use Rattle.model.specs.Limits.{maxTasks}
 use Rattle.model.specs.Plan.{Plan, tasksOf}
 use Rattle.model.specs.Valid.{Valid}
 use Rattle.tables.specs.declared.PlanRecord.{PlanRecord}
 use Rattle.tables.specs.Layout.{Tables, taskWidth, taskCells, over, filled}
-use Rattle.tables.specs.FlatLaws.{flat-append, flat-length}
+use Rattle.tables.specs.FlatLaws.{flat-length}
 use Rattle.tables.specs.LayoutLaws.{task-wide}
 use Rattle.tables.specs.Given.{Gives, planIn, isGiven}
 use Rattle.tables.specs.GivenLaws.{gives-kept, valid-few, given-plan, given-exactly, plan-given}
 use Rattle.tables.specs.Sound.{given-sound}
 use Rattle.records.specs.Sheet.{Task, taskNums, sheetRows, cutTo, tablesOf}
 use Rattle.records.specs.SheetLaws.{sheet-long}
-
-pub agree : (a b : Bool) → (a ≡ true → b ≡ true) → (b ≡ true → a ≡ true) → a ≡ b
-agree true b f g = sym (f refl)
-agree false true f g = absurd (false≢true (g refl))
-agree false false f g = refl
 
 -- TWO TABLES OF TASKS, one with more at its end
 module _ (vt mt ot f g : List ℕ) where
@@ -88,7 +84,7 @@ module _ (vt mt ot f g : List ℕ) where
 
     pub same-test : (r : PlanRecord) → isGiven r (at f) ≡ isGiven r (at (f ++ g))
     same-test r =
-        agree (isGiven r (at f)) (isGiven r (at (f ++ g))) (more r)
+        both-ways (isGiven r (at f)) (isGiven r (at (f ++ g))) (more r)
         (λ e. given-exactly r (at f) .1 (planIn r (at (f ++ g)), given-plan r (at (f ++ g)) e .0, less r e))
 
     pub same-plan : (r : PlanRecord) → isGiven r (at (f ++ g)) ≡ true → planIn r (at f) ≡ planIn r (at (f ++ g))

@@ -10,9 +10,10 @@ use lib.ListN.{length, take, drop, getD, take-append-drop}
 use lib.Seq.{length-take-le, drop-at}
 use Rattle.laws.specs.Choice.{if_then_else_}
 use Rattle.laws.specs.Sums.{flat}
-use Rattle.laws.specs.SumLaws.{each-map}
+use Rattle.laws.specs.SumLaws.{each-map, flat-append}
 use Rattle.laws.specs.Rows.{rows}
 use Rattle.laws.specs.RowLaws.{rows-length, rows-same}
+use Rattle.laws.specs.BoolLaws.{both-ways}
 use Rattle.model.specs.Limits.{maxTasks}
 use Rattle.model.specs.declared.Refusal.{Refusal}
 use Rattle.model.specs.declared.Refusal.the-variants.{Room}
@@ -22,7 +23,7 @@ use Rattle.model.specs.Reading.{Reading, Accepts, Refuses, reading}
 use Rattle.model.specs.Accepted.{read-text}
 use Rattle.tables.specs.declared.PlanRecord.{PlanRecord}
 use Rattle.tables.specs.Layout.{Tables, taskWidth, vcpuWidth, mutexWidth, openWidth, taskCells, filled, recordOf}
-use Rattle.tables.specs.FlatLaws.{flat-append, flat-length, over-rows}
+use Rattle.tables.specs.FlatLaws.{flat-length, over-rows}
 use Rattle.tables.specs.LayoutLaws.{task-wide}
 use Rattle.tables.specs.Given.{roomy, isGiven}
 use Rattle.tables.specs.Sound.{given-sound}
@@ -33,11 +34,31 @@ use Rattle.reader.specs.Into.{answerInto, tablesInto, planAnswer, tablesAfter}
 use Rattle.reader.specs.Claims.{refusal-leaves, acceptance-leaves, accepted-with-room, accepted-given}
 use Rattle.records.specs.Sheet.{Task, locksTo, taskNums, sheetRows, tablesOf, noRows, lockOf, taskOf, saved, countOf, sheetsAfter}
 use Rattle.records.specs.SheetLaws.{sheet-long, rows-long}
-use Rattle.records.specs.CutLaws.{agree}
 use Rattle.records.specs.SaveLaws.{saved-none, task-same}
 
 leb-same : (a b c : ℕ) → (a ≤ b → a ≤ c) → (a ≤ c → a ≤ b) → leb a b ≡ leb a c
-leb-same a b c f g = agree (leb a b) (leb a c) (λ e. le-leb a c (f (leb-true a b e))) (λ e. le-leb a b (g (leb-true a c e)))
+leb-same a b c f g = both-ways (leb a b) (leb a c) (λ e. le-leb a c (f (leb-true a b e))) (λ e. le-leb a b (g (leb-true a c e)))
+
+-- what holds of both readings of s holds
+by-reading : (s : List ℕ) (Q : Reading → Type 0) → ((x : Refusal) (l : ℕ) → Q (Refuses x l)) → ((p : Plan) → Valid p → Q (Accepts p)) → Q (reading s)
+by-reading s Q f g = go (reading s) refl
+  where
+    go : (r : Reading) → reading s ≡ r → Q r
+    go (Refuses x l) e = f x l
+    go (Accepts p) e = g p (read-text s p e .0)
+
+-- no plan has more tasks than it may
+few : (p : Plan) → Valid p → recordOf p .tasks ≤ maxTasks
+unfolding recordOf
+few p h = h .few-tasks
+
+pub count-few : (s : List ℕ) (t : Tables) → countOf (planAnswer s t) ≤ maxTasks
+unfolding planAnswer
+count-few s t = by-reading s (λ r. countOf (answerInto r t) ≤ maxTasks) (λ x l. omega arith) (λ p h. go p h (roomy (recordOf p) t))
+  where
+    go : (p : Plan) → Valid p → (b : Bool) → countOf (if b then Accepted (recordOf p) else Refused Room 0) ≤ maxTasks
+    go p h true = few p h
+    go p h false = omega arith
 
 -- u has room for as many rows as there are records, up to as many as a plan has
 module _ (s vt mt ot : List ℕ) (ks : List Task) (u : List ℕ) (long : length u ≡ min (length ks) maxTasks * taskWidth) where
@@ -49,10 +70,6 @@ module _ (s vt mt ot : List ℕ) (ks : List Task) (u : List ℕ) (long : length 
 
   abbrev cells : Plan → List ℕ
   cells p = flat taskCells (tasksOf (p .sections))
-
-  few : (p : Plan) → Valid p → recordOf p .tasks ≤ maxTasks
-  unfolding recordOf
-  few p h = h .few-tasks
 
   cells-long : (p : Plan) → Valid p → length (cells p) ≡ recordOf p .tasks * taskWidth
   unfolding recordOf
@@ -66,18 +83,10 @@ module _ (s vt mt ot : List ℕ) (ks : List Task) (u : List ℕ) (long : length 
       ap (λ b. leb (recordOf p .vcpus * vcpuWidth) (length vt) && (leb (recordOf p .mutexes * mutexWidth) (length mt) && (leb (recordOf p .opens * openWidth) (length ot) && b)))
       (leb-same (recordOf p .tasks * taskWidth) (length u) (length (sheetRows ks)) (λ a. omega arith) (λ a. omega arith))
 
-  -- what holds of both readings holds
-  by-reading : (Q : Reading → Type 0) → ((x : Refusal) (l : ℕ) → Q (Refuses x l)) → ((p : Plan) → Valid p → Q (Accepts p)) → Q (reading s)
-  by-reading Q f g = go (reading s) refl
-    where
-      go : (r : Reading) → reading s ≡ r → Q r
-      go (Refuses x l) e = f x l
-      go (Accepts p) e = g p (read-text s p e .0)
-
   pub answer-same : planAnswer s nums ≡ planAnswer s recs
   unfolding planAnswer
   answer-same =
-      by-reading (λ r. answerInto r nums ≡ answerInto r recs) (λ x l. refl)
+      by-reading s (λ r. answerInto r nums ≡ answerInto r recs) (λ x l. refl)
       (λ p h. ap (λ b. if b then Accepted (recordOf p) else Refused Room 0) (room-same p h))
 
   -- the tables where b says that there is room
@@ -95,19 +104,19 @@ module _ (s vt mt ot : List ℕ) (ks : List Task) (u : List ℕ) (long : length 
   pub vcpus-same : tablesAfter s nums .vcpus ≡ tablesAfter s recs .vcpus
   unfolding tablesAfter
   vcpus-same =
-      by-reading (λ r. tablesInto r nums .vcpus ≡ tablesInto r recs .vcpus) (λ x l. refl)
+      by-reading s (λ r. tablesInto r nums .vcpus ≡ tablesInto r recs .vcpus) (λ x l. refl)
       (λ p h. ap (λ b. left p nums b .vcpus) (room-same p h) ∙ others-same p (roomy (recordOf p) recs) .0)
 
   pub mutexes-same : tablesAfter s nums .mutexes ≡ tablesAfter s recs .mutexes
   unfolding tablesAfter
   mutexes-same =
-      by-reading (λ r. tablesInto r nums .mutexes ≡ tablesInto r recs .mutexes) (λ x l. refl)
+      by-reading s (λ r. tablesInto r nums .mutexes ≡ tablesInto r recs .mutexes) (λ x l. refl)
       (λ p h. ap (λ b. left p nums b .mutexes) (room-same p h) ∙ others-same p (roomy (recordOf p) recs) .1)
 
   pub opens-same : tablesAfter s nums .opens ≡ tablesAfter s recs .opens
   unfolding tablesAfter
   opens-same =
-      by-reading (λ r. tablesInto r nums .opens ≡ tablesInto r recs .opens) (λ x l. refl)
+      by-reading s (λ r. tablesInto r nums .opens ≡ tablesInto r recs .opens) (λ x l. refl)
       (λ p h. ap (λ b. left p nums b .opens) (room-same p h) ∙ others-same p (roomy (recordOf p) recs) .2)
 
   sheet-pick : (w : List ℕ) (p : Plan) → Valid p → (b : Bool) → saved ks (left p nums b .tasks ++ w) (countOf (told p b)) ≡ saved ks (left p recs b .tasks) (countOf (told p b))
@@ -123,21 +132,13 @@ module _ (s vt mt ot : List ℕ) (ks : List Task) (u : List ℕ) (long : length 
   pub sheets-same : (w : List ℕ) → saved ks (tablesAfter s nums .tasks ++ w) (countOf (planAnswer s nums)) ≡ sheetsAfter s vt mt ot ks
   unfolding planAnswer tablesAfter sheetsAfter
   sheets-same w =
-      by-reading (λ r. saved ks (tablesInto r nums .tasks ++ w) (countOf (answerInto r nums)) ≡ saved ks (tablesInto r recs .tasks) (countOf (answerInto r recs)))
+      by-reading s (λ r. saved ks (tablesInto r nums .tasks ++ w) (countOf (answerInto r nums)) ≡ saved ks (tablesInto r recs .tasks) (countOf (answerInto r recs)))
       (λ x l. sym (saved-none ks (u ++ w)) ∙ saved-none ks (sheetRows ks))
       (λ p h. ap (λ b. saved ks (left p nums b .tasks ++ w) (countOf (told p b))) (room-same p h) ∙ sheet-pick w p h (roomy (recordOf p) recs))
 
-  pub count-few : countOf (planAnswer s recs) ≤ maxTasks
-  unfolding planAnswer
-  count-few = by-reading (λ r. countOf (answerInto r recs) ≤ maxTasks) (λ x l. omega arith) (λ p h. go p h (roomy (recordOf p) recs))
-    where
-      go : (p : Plan) → Valid p → (b : Bool) → countOf (told p b) ≤ maxTasks
-      go p h true = few p h
-      go p h false = omega arith
-
   count-room : countOf (planAnswer s recs) ≤ length ks
   unfolding planAnswer
-  count-room = by-reading (λ r. countOf (answerInto r recs) ≤ length ks) (λ x l. omega arith) (λ p h. go p h (roomy (recordOf p) recs) refl)
+  count-room = by-reading s (λ r. countOf (answerInto r recs) ≤ length ks) (λ x l. omega arith) (λ p h. go p h (roomy (recordOf p) recs) refl)
     where
       go : (p : Plan) → Valid p → (b : Bool) → roomy (recordOf p) recs ≡ b → countOf (told p b) ≤ length ks
       go p h true e = let k = roomy-exactly (recordOf p) recs .0 e in let l = sheet-long ks in omega (arith, k .tasks)
@@ -170,7 +171,7 @@ module _ (s vt mt ot : List ℕ) (ks : List Task) (a : PlanAnswer) (v m o w : Li
   pub read-count : (n ≤ 64) × (n ≤ length ks)
   read-count =
       let k : n ≡ countOf (planAnswer s (tablesOf vt mt ot ks)) = e ∙ ap countOf (h .0 ∙ answer-same s vt mt ot ks u u-long) in
-      (omega (arith, count-few s vt mt ot ks u u-long), omega (arith, count-room s vt mt ot ks u u-long))
+      (omega (arith, count-few s (tablesOf vt mt ot ks)), omega (arith, count-room s vt mt ot ks u u-long))
 
   pub read-all : (zs : List Task) → zs ≡ saved ks w n → ReadOut s vt mt ot ks a v m o zs
   read-all zs z = (
@@ -190,7 +191,7 @@ module _ (s vt mt ot : List ℕ) (ks : List Task) (a : PlanAnswer) (v m o w : Li
 -- THE RECORDS AFTER ARE THE ROWS AFTER
 
 -- the numbers of a record that is read are the row's
-nums-back : (t : List ℕ) (i : ℕ) → taskNums (taskOf t i) ≡ rows taskWidth (λ j. getD t (i * taskWidth + j) 0)
+pub nums-back : (t : List ℕ) (i : ℕ) → taskNums (taskOf t i) ≡ rows taskWidth (λ j. getD t (i * taskWidth + j) 0)
 unfolding taskNums locksTo taskOf lockOf flat rows
 nums-back t i = refl
 

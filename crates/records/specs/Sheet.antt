@@ -50,7 +50,7 @@ tablesOf vt mt ot ks = record { vcpus = vt; mutexes = mt; opens = ot; tasks = sh
 unfoldable pub noRows : List ℕ
 noRows = replicate (maxTasks * taskWidth) 0
 
--- THE WAY BACK: the record of row i
+-- THE WAY BACK: lock j of row i, and the record of row i
 unfoldable pub lockOf : List ℕ → ℕ → ℕ → Lock
 lockOf t i j =
     record {

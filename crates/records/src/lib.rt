@@ -7,6 +7,9 @@ ghost use lib.ListN.{length, getD, take, drop};
 ghost use lib.Seq.{sets};
 ghost use Rattle.tables.specs.Layout.{over};
 ghost use Rattle.reader.specs.Into.{planAnswer, tablesAfter};
+ghost use Rattle.filler.specs.Fill.{vcpuPut, mutexPut, openPut, taskPut};
+ghost use Rattle.reader.specs.Judged.{linesLeft};
+ghost use Rattle.reader.specs.Ample.{Ample};
 ghost use Rattle.records.specs.Blank.{noTasks};
 ghost use Rattle.records.specs.Sheet.{noTask, taskNums, sheetRows, cutTo, tablesOf, noRows, lockOf, taskOf, saved, countOf, sheetsAfter};
 
@@ -165,7 +168,7 @@ fn count_of(a: PlanAnswer) -> usize
     }
 }
 
-// Reads bytes offered as a plan, with room for n records.
+// Reads bytes offered as a plan, with room for n records, and no more than 64.
 fn read_in(
     src: &[u8],
     vt: &mut [u64],
@@ -236,7 +239,17 @@ fn no_tasks() -> [Task; 64]
     [t; 64]
 }
 
-// Reads bytes offered as a plan into a table of 64 records, and copies the records of its tasks into lent rows of numbers, all 0.
+// Keeps the tasks of the first n rows of numbers as records, in a table of 64, and copies their numbers back: the rows are as they were.
+fn kept(rows: &mut [u64], n: usize)
+    requires { ⌜ (n ≤ 64) × (1856 ≤ length (now rows)) ⌝ }
+    ensures { λ r. ⌜ now (rows .exit) ≡ now (rows .entry) ⌝ }
+{
+    let mut tasks = no_tasks();
+    save(&mut tasks, rows, n);
+    load(&tasks, rows, n);
+}
+
+// Reads bytes offered as a plan into tables of numbers with room for every plan, in one pass, its tasks by way of a table of records. Where the plan is refused, the tables hold the rows of the lines before the first that is refused.
 pub fn read_rows(
     src: &[u8],
     vt: &mut [u64],
@@ -244,16 +257,15 @@ pub fn read_rows(
     ot: &mut [u64],
     rows: &mut [u64],
 ) -> PlanAnswer
-    requires { ⌜ now rows ≡ noRows ⌝ }
-    ensures { λ a. ⌜ (a ≡ planAnswer (now (src .entry)) (tablesOf (now (vt .entry)) (now (mt .entry)) (now (ot .entry)) noTasks))
-        × ((now (vt .exit) ≡ tablesAfter (now (src .entry)) (tablesOf (now (vt .entry)) (now (mt .entry)) (now (ot .entry)) noTasks) .vcpus)
-        × ((now (mt .exit) ≡ tablesAfter (now (src .entry)) (tablesOf (now (vt .entry)) (now (mt .entry)) (now (ot .entry)) noTasks) .mutexes)
-        × ((now (ot .exit) ≡ tablesAfter (now (src .entry)) (tablesOf (now (vt .entry)) (now (mt .entry)) (now (ot .entry)) noTasks) .opens)
-        × (now (rows .exit) ≡ tablesAfter (now (src .entry)) (tablesOf (now (vt .entry)) (now (mt .entry)) (now (ot .entry)) noTasks) .tasks)))) ⌝ }
+    requires { ⌜ Ample (record { vcpus = now vt; mutexes = now mt; opens = now ot; tasks = now rows }) ⌝ }
+    ensures { λ a. ⌜ a ≡ planAnswer (now (src .entry)) (record { vcpus = now (vt .entry); mutexes = now (mt .entry); opens = now (ot .entry); tasks = now (rows .entry) }) ⌝ }
+    ensures { λ a. ⌜ now (vt .exit) ≡ linesLeft vcpuPut (now (src .entry)) (now (vt .entry)) ⌝ }
+    ensures { λ a. ⌜ now (mt .exit) ≡ linesLeft mutexPut (now (src .entry)) (now (mt .entry)) ⌝ }
+    ensures { λ a. ⌜ now (ot .exit) ≡ linesLeft openPut (now (src .entry)) (now (ot .entry)) ⌝ }
+    ensures { λ a. ⌜ now (rows .exit) ≡ linesLeft taskPut (now (src .entry)) (now (rows .entry)) ⌝ }
 {
-    let mut tasks = no_tasks();
-    let a = read_plan(src, vt, mt, ot, &mut tasks);
+    let a = reader::read_lines(src, vt, mt, ot, rows);
     let n = count_of(a);
-    load(&tasks, rows, n);
+    kept(rows, n);
     a
 }

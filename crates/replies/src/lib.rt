@@ -6,13 +6,12 @@ ghost use mathlib.Core.Path.{_≡_};
 ghost use mathlib.Core.List.{[], _∷_};
 ghost use Prim.Native.Nat.{_≤_};
 ghost use lib.ListN.{length};
-ghost use Rattle.laws.specs.Choice.{if_then_else_};
 ghost use Rattle.laws.specs.Decimal.{decimal};
 ghost use Rattle.model.specs.declared.Refusal.the-variants.{Shape};
 ghost use Rattle.listing.specs.Listing.{line};
 ghost use Rattle.letters.specs.Wrote.{Wrote, Sized};
 ghost use Rattle.lockboard.specs.Events.{answerFields};
-ghost use Rattle.replies.specs.Parts.{nextParts, partsOf, plainText, pairWord, partsText, endText};
+ghost use Rattle.replies.specs.Parts.{nextParts, partsOf, plainText, pairWord, partsText};
 
 // An answer, taken apart: how many numbers its line has, which of the lines with as many it is, and the numbers.
 struct Parts {
@@ -89,20 +88,13 @@ fn parts_of(a: BoardAnswer) -> Parts
     }
 }
 
-// One of two words.
-fn pick<'a>(c: bool, a: &'a [u8], b: &'a [u8]) -> &'a [u8]
-    ensures { λ r. ⌜ now r ≡ if c then now (a .entry) else now (b .entry) ⌝ }
-{
-    if c { a } else { b }
-}
-
 // Writes a line with no number.
 fn plain_line(out: &mut [u8], word: u64) -> usize
     requires { ⌜ length (plainText word) ≤ length (now out) ⌝ }
     ensures { λ r. ⌜ Wrote (plainText word) (now (out .entry)) (now (out .exit)) r ⌝ }
 {
-    let later = pick(word == 1, b"waits\n", b"freed\t-\t-\n");
-    let text = pick(word == 0, b"granted\n", later);
+    let later = letters::pick(word == 1, b"waits\n", b"freed\t-\t-\n");
+    let text = letters::pick(word == 0, b"granted\n", later);
     letters::put(out, text)
 }
 
@@ -129,8 +121,8 @@ fn pair_line(out: &mut [u8], word: u64, x: u64, y: u64) -> usize
     requires { ⌜ length (line (pairWord word ∷ decimal x ∷ decimal y ∷ [])) ≤ length (now out) ⌝ }
     ensures { λ r. ⌜ Wrote (line (pairWord word ∷ decimal x ∷ decimal y ∷ [])) (now (out .entry)) (now (out .exit)) r ⌝ }
 {
-    let later = pick(word == 1, b"left", b"show");
-    let w = pick(word == 0, b"freed", later);
+    let later = letters::pick(word == 1, b"left", b"show");
+    let w = letters::pick(word == 0, b"freed", later);
     two_line(out, w, x, y)
 }
 
@@ -209,15 +201,4 @@ pub fn unended() -> BoardAnswer
     ensures { λ r. ⌜ r ≡ BoardAnswer.Refused Shape ⌝ }
 {
     BoardAnswer::Refused(Refusal::Shape)
-}
-
-// The size of the answer to the last piece, of k bytes.
-pub fn end_size(k: usize) -> usize
-    ensures { λ r. ⌜ Sized (endText k) 60 r ⌝ }
-{
-    if k == 0 {
-        return 0;
-    }
-    let a = unended();
-    answer_size(a)
 }

@@ -9,6 +9,7 @@ use Rattle.laws.specs.Fields.{before}
 use Rattle.model.specs.Limits.{lf}
 use Rattle.lines.specs.Said.{saidOf}
 pub use Rattle.scan.specs.declared.Line.{Line}
+pub use Rattle.scan.specs.declared.Step.{Step}
 
 -- the bytes before the next LF, from `at` on
 abbrev pub lineIn : List ℕ → ℕ → List ℕ
@@ -28,3 +29,7 @@ lineAt s at =
       said = saidOf (lineIn s at);
       next = if hasLf s at then at + length (lineIn s at) + 1 else length s;
     }
+
+-- what is read from a place and a line's number: that line, and the place and the number of the next
+unfoldable pub stepAt : List ℕ → ℕ → ℕ → Step
+stepAt s at n = record { line = lineAt s at; at = lineAt s at .next; number = n + 1 }

@@ -15,7 +15,7 @@ use Rattle.laws.specs.Steps.{take-before, pieces-cut, pieces-uncut, before-whol
 use Rattle.model.specs.Limits.{lf}
 use Rattle.lines.specs.declared.Said.{Said}
 use Rattle.lines.specs.Said.{saidOf}
-use Rattle.scan.specs.Scan.{Line, lineIn, lineAt}
+use Rattle.scan.specs.Scan.{Line, Step, lineIn, lineAt, stepAt}
 
 -- r is what is left of s from `at` on, and k its bytes before the next LF
 module _ (s : List ℕ) (at k : ℕ) (r : List ℕ) (er : r ≡ drop at s) (ek : k ≡ length (before lf r)) where
@@ -62,3 +62,10 @@ module _ (s : List ℕ) (at : ℕ) where
   last-piece h =
       let l = ltb-false _ _ h in
       pieces-uncut lf (drop at s) l ∙ ap (λ p. p ∷ []) (before-whole lf (drop at s) l)
+
+-- ONE STEP: the line l of a reader of r at i with the number m, and the place j and the number o that the reader is moved to
+pub step-made :
+    (s : List ℕ) (at n : ℕ) (r : List ℕ) (i m : ℕ) (l : Line) (j o : ℕ) → r ≡ s → i ≡ at → m ≡ n → l ≡ lineAt r i → j ≡ l .next → o ≡ m + 1 →
+    _≡_ {A = Step} (record { line = l; at = j; number = o }) (stepAt s at n)
+unfolding stepAt
+step-made s at n r i m l j o er ei em el ej eo = rw (eo, ej, el, em, ei, er)

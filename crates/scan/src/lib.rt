@@ -5,7 +5,7 @@ ghost use mathlib.Core.Bool.{true};
 ghost use Prim.Native.Nat.{_+_, _<_, _≤_, _^_};
 ghost use lib.ListN.{drop};
 ghost use Rattle.laws.specs.Choice.{if_then_else_};
-ghost use Rattle.scan.specs.Scan.{lineAt};
+ghost use Rattle.scan.specs.Scan.{lineAt, stepAt};
 
 const LF: u8 = 10;
 
@@ -60,15 +60,11 @@ pub fn line_at(src: &[u8], at: usize) -> Line
     }
 }
 
-// The reader of an input: at its first line.
-pub fn new<'a>(src: &'a [u8]) -> LineReader<'a>
-    ensures { λ r. ⌜ (r .src ≡ src .entry) × (r .at ≡ 0) × (r .line ≡ 1) ⌝ }
+// The reader of an input at a place where a line begins, with that line's number.
+pub fn placed<'a>(src: &'a [u8], at: usize, line: usize) -> LineReader<'a>
+    ensures { λ r. ⌜ (r .src ≡ src .entry) × (r .at ≡ at) × (r .line ≡ line) ⌝ }
 {
-    LineReader {
-        src,
-        at: 0,
-        line: 1,
-    }
+    LineReader { src, at, line }
 }
 
 // The line that the reader is at.
@@ -76,13 +72,6 @@ pub fn next_line<'a>(r: LineReader<'a>) -> Line
     ensures { λ l. ⌜ l ≡ lineAt (now (r .entry .src)) (r .entry .at) ⌝ }
 {
     line_at(r.src, r.at)
-}
-
-// Its number.
-pub fn line_number<'a>(r: LineReader<'a>) -> usize
-    ensures { λ n. ⌜ n ≡ r .entry .line ⌝ }
-{
-    r.line
 }
 
 // The reader at the line after, which begins at `next`.
@@ -95,4 +84,29 @@ pub fn moved<'a>(r: LineReader<'a>, next: usize) -> LineReader<'a>
         at: next,
         line: r.line + 1,
     }
+}
+
+// A line, and where the line after begins, with its number.
+pub struct Step {
+    pub line: Line,
+    pub at: usize,
+    pub number: usize,
+}
+
+// The step of a line, and of the place and the number of the next.
+fn stepped(line: Line, at: usize, number: usize) -> Step
+    ensures { λ r. ⌜ r ≡ record { line = line; at = at; number = number } ⌝ }
+{
+    Step { line, at, number }
+}
+
+// Reads the line at a place, with its number, through a reader of the input: that line, and the next place and number.
+pub fn read_line(src: &[u8], at: usize, line: usize) -> Step
+    requires { ⌜ line + 1 < 2 ^ 64 ⌝ }
+    ensures { λ r. ⌜ r ≡ stepAt (now (src .entry)) at line ⌝ }
+{
+    let r = placed(src, at, line);
+    let l = next_line(r);
+    let q = moved(r, l.next);
+    stepped(l, q.at, q.line)
 }

@@ -1,14 +1,14 @@
 -- The recurrence gives the right answer, any two right answers are the same, and a search by hand is proved by four steps of a trace.
 use Prim.Native.Nat.{ℕ, zero, suc, _+_, _-_, _≤_, _<_, min}
-use mathlib.Core.Path.{_≡_, refl, sym, ap, subst, fun-ext}
+use mathlib.Core.Path.{_≡_, refl, ap, fun-ext}
 use mathlib.Core.Bool.{Bool, true, false}
-use mathlib.Core.Logic.{_⊎_, _↔_, inl, inr, _≢_, by-cases}
+use mathlib.Core.Logic.{_↔_, inl, inr, _≢_, by-cases}
 use mathlib.Core.Option.{Option, some, none}
 use native.Mathlib.Nat.{lt-trans, le-of-eq}
 use native.Mathlib.Omega.{arith}
 use native.Mathlib.Numerals.{add-one}
 use native.Mathlib.Decide.{decLe, decLt, ℕ-discrete}
-use lib.Dec.{ltb, leb, eqb}
+use lib.Dec.{ltb, eqb}
 use borrow.Author.Count.{below-more, below-none}
 use borrow.Author.Tests.{lt-ltb, le-ltb, le-leb, lt-leb, eq-eqb, ne-eqb}
 use Rattle.search.specs.Search.{Answer, Fits, Late, iterate, Over, Rounds, Smallest, window, rounds, Right, recur, solve, Demand, tryFrom, plain}

@@ -13,7 +13,7 @@ use lib.ListN.{length, getD, set, length-set}
 use lib.Seq.{getD-set-same, getD-set-other}
 use Rattle.laws.specs.Choice.{when}
 use Rattle.laws.specs.Sums.{up, sum, flat, only, Each}
-use Rattle.laws.specs.SumLaws.{up-le, cap-mul-right, sum-append, sum-flat, sum-only, only-in, only-out, each-append}
+use Rattle.laws.specs.SumLaws.{up-le, cap-mul-right, sum-append, sum-only, only-in, only-out, flat-append}
 use Rattle.laws.specs.Rows.{rows, Capped}
 use Rattle.laws.specs.RowLaws.{rows-same, sum-next, capped-more}
 use Rattle.search.specs.Row.{cap, IsUpTo, Row, Sound, rowIn, rowsIn, share, rowsDemand, pushed, pick, Built, Picked}
@@ -91,21 +91,10 @@ rows-push xs n r h = rw add-one (ap₂ (λ l x. l ++ (x ∷ [])) (rows-same n (p
 -- LISTS THAT GROW AT THEIR END
 
 module _ {A B : Type 0} (g : A → List B) where
-  pub flat-append : (xs ys : List A) → flat g (xs ++ ys) ≡ flat g xs ++ flat g ys
-  unfolding flat
-  flat-append [] ys = refl
-  flat-append (x ∷ xs) ys = rw (flat-append xs ys, append-assoc)
-
   -- one more thing
   pub flat-next : (thing : ℕ → A) (i : ℕ) → flat g (rows (i + 1) thing) ≡ flat g (rows i thing) ++ g (thing i)
   unfolding rows flat
   flat-next thing i = rw (add-one, flat-append, append-nil)
-
-  -- P holds of each row that a thing gives, where Q holds of each thing
-  pub each-flat : (P : B → Type 0) (Q : A → Type 0) (xs : List A) → ((x : A) → Q x → Each P (g x)) → Each Q xs → Each P (flat g xs)
-  unfolding flat
-  each-flat P Q [] k h = tt
-  each-flat P Q (x ∷ xs) k h = each-append P (g x) (flat g xs) (k x (h .0)) (each-flat P Q xs k (h .1))
 
 -- THE ROWS OF THE THINGS THAT PASS
 
@@ -198,16 +187,6 @@ module _ (base t : ℕ) (stood : List Row) where
   unfolding rowsDemand
   demand-append rs = omega (arith, sum-append (share t) stood rs)
 
-  pub demand-flat : {A : Type 0} (g : A → List Row) (xs : List A)
-      → rowsDemand base (stood ++ flat g xs) t ≡ base + sum (share t) stood + sum (λ x. sum (share t) (g x)) xs
-  demand-flat g xs = demand-append (flat g xs) ∙ ap (λ n. base + sum (share t) stood + n) (sum-flat (share t) g xs)
-
   pub demand-pick : {A : Type 0} (test : A → Bool) (f : A → Row) (xs : List A)
       → rowsDemand base (stood ++ map f (only test xs)) t ≡ base + sum (share t) stood + sum (λ x. when (test x) (share t (f x))) xs
   demand-pick test f xs = demand-append (map f (only test xs)) ∙ ap (λ n. base + sum (share t) stood + n) (sum-pick (share t) test f xs)
-
--- where none stood
-pub demand-only : {A : Type 0} (base t : ℕ) (test : A → Bool) (f : A → Row) (xs : List A)
-    → rowsDemand base (map f (only test xs)) t ≡ base + sum (λ x. when (test x) (share t (f x))) xs
-unfolding rowsDemand
-demand-only base t test f xs = ap (λ n. base + n) (sum-pick (share t) test f xs)

@@ -16,7 +16,7 @@ pub enum Answer {
 }
 
 // a, or the cap.
-pub fn capped(a: u64) -> u64
+fn capped(a: u64) -> u64
     ensures { λ r. ⌜ r ≡ min a cap ⌝ }
 {
     if a < CAP { a } else { CAP }

@@ -1,25 +1,25 @@
 -- Laws of look-ups that are 0 out of range, and of the seats of a VCPU.
-use Prim.Native.Nat.{ℕ, zero, suc, _+_, _-_, _*_, _<_, _≤_}
+use Prim.Native.Nat.{ℕ, _≤_}
 use mathlib.Core.Path.{_≡_, refl, sym, _∙_}
-use mathlib.Core.Bool.{Bool, true, false, _&&_, _||_, not}
+use mathlib.Core.Bool.{Bool, true, false, _&&_}
 use mathlib.Core.List.{List}
 use native.Mathlib.Omega.{arith}
-use lib.Dec.{eqb, ltb, leb}
+use lib.Dec.{eqb}
 use lib.ListN.{length, getD, List·getD-eq-default}
-use borrow.Author.Tests.{leb-true, ne-eqb}
+use borrow.Author.Tests.{ne-eqb}
 use Rattle.laws.specs.Choice.{when}
 use Rattle.laws.specs.BoolLaws.{both-left, both-right}
-use Rattle.model.specs.Rules.{within}
-use Rattle.seats.specs.Seats.{isV, isN, isM}
+use Rattle.model.specs.RuleLaws.{in-range}
+use Rattle.seats.specs.Seats.{isV, isN}
 
--- a look-up in range, and out of range
-pub when-yes : {c : Bool} {x r : ℕ} → c ≡ true → r ≡ x → r ≡ when c x
+-- a look-up in range, and out of range: t is the test's flag
+pub when-yes : {t c : Bool} {x r : ℕ} → t ≡ c → t ≡ true → r ≡ x → r ≡ when c x
 unfolding when
-when-yes p q = rw (p, q)
+when-yes e p q = rw (sym e ∙ p, q)
 
-pub when-no : {c : Bool} (x : ℕ) → c ≡ false → 0 ≡ when c x
+pub when-no : {t c : Bool} (x : ℕ) → t ≡ c → t ≡ false → 0 ≡ when c x
 unfolding when
-when-no x p = rw p
+when-no x e p = rw (sym e ∙ p)
 
 -- a test that 0 fails
 pub when-test : (f : ℕ → Bool) (c : Bool) (x : ℕ) → f 0 ≡ false → f (when c x) ≡ (c && f x)
@@ -30,10 +30,6 @@ when-test f false x e = e
 -- past the end of a list of n stands nothing
 pub past : {A : Type 0} (d : A) (xs : List A) (i n : ℕ) → length xs ≡ n → n ≤ i → d ≡ getD xs i d
 past d xs i n e l = sym (List·getD-eq-default xs d {n = i} (rw e l))
-
--- what a name in range is
-pub in-range : (x lo hi : ℕ) → within x lo hi ≡ true → (lo ≤ x) × (x ≤ hi)
-in-range x lo hi e = (leb-true lo x (both-left (leb lo x) (leb x hi) e), leb-true x hi (both-right (leb lo x) (leb x hi) e))
 
 pub record Ranges (v n : ℕ) : Type 0 where
   pub lowV : 1 ≤ v

@@ -1,12 +1,11 @@
 // Look-ups by the names v, n and m in the view of a plan and in a board's arrays. Each is total.
+use model::within;
 ghost use mathlib.Core.Path.{_≡_};
-ghost use mathlib.Core.Bool.{Bool, true, false, _&&_, _||_, not};
-ghost use lib.Dec.{eqb, ltb, leb};
-ghost use Prim.Native.Nat.{ℕ, _+_, _-_, _*_, _≤_, _<_};
+ghost use mathlib.Core.Bool.{false, _&&_, _||_, not};
+ghost use Prim.Native.Nat.{_-_, _≤_, _<_};
 ghost use lib.ListN.{getD};
 ghost use Rattle.laws.specs.Choice.{if_then_else_, when};
-ghost use Rattle.model.specs.Rules.{within};
-ghost use Rattle.seats.specs.Seats.{isV, isN, isM, seatOf, ownerAt, taskAt, lockAt, hasVcpu, budgetOf, overrunOf, hasTask, listsIt, hasMutex, isGlobal, isLocal, ceilingOf, holdsIt, heldByOther, waitAt, localWaiter};
+ghost use Rattle.seats.specs.Seats.{isV, isN, isM, seat, ownerAt, taskAt, lockAt, hasVcpu, budgetOf, overrunOf, hasTask, listsIt, hasMutex, isGlobal, isLocal, ceilingOf, holdsIt, heldByOther, waitAt, localWaiter};
 
 // a - b, or 0 where b is above a
 pub fn sub(a: u64, b: u64) -> u64
@@ -39,22 +38,16 @@ pub fn pick(c: bool, a: bool, b: bool) -> bool
     if c { a } else { b }
 }
 
-pub fn wide8(x: u8) -> u64
+fn wide8(x: u8) -> u64
     ensures { λ r. ⌜ (r ≡ x) × (r < 256) ⌝ }
 {
     x as u64
 }
 
-pub fn wide16(x: u16) -> u64
+fn wide16(x: u16) -> u64
     ensures { λ r. ⌜ r ≡ x ⌝ }
 {
     x as u64
-}
-
-pub fn within(x: u64, lo: u64, hi: u64) -> bool
-    ensures { λ r. ⌜ r ≡ within x lo hi ⌝ }
-{
-    both(lo <= x, x <= hi)
 }
 
 // What stands at i, 0 past the end.
@@ -68,7 +61,7 @@ pub fn at(s: &[u64], i: u64) -> u64
 // The seat of task (v, n), 1 to 128.
 pub fn seat(v: u64, n: u64) -> u64
     requires { ⌜ (v ≤ 16) × (n ≤ 8) ⌝ }
-    ensures { λ r. ⌜ (r ≡ seatOf v n) × (r ≤ 128) ⌝ }
+    ensures { λ r. ⌜ (r ≡ seat v n) × (r ≤ 128) ⌝ }
 {
     sub(v, 1) * 8 + n
 }

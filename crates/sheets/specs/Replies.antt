@@ -1,4 +1,4 @@
--- What is replied to a question about lent tables: what the test for 9 and the rows asked for by their names say.
+-- What is replied to a question about lent tables: what the test for 9, and the rows and the responses asked for by their names, say.
 use Rattle.tables.specs.declared.PlanRecord.{PlanRecord}
 use Rattle.tables.specs.Layout.{Tables}
 use Rattle.tables.specs.Given.{isGiven}

@@ -125,7 +125,7 @@ fn step_in(
     boards::step(b, r, vt, mt, ot, &rows[..c], e)
 }
 
-// One event.
+// One event: 9 for the tables, 9 for the board, then its own refusals; where it is refused, the board as it was.
 pub fn step(
     b: Board,
     r: PlanRecord,

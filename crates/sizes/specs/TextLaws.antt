@@ -6,12 +6,12 @@ use mathlib.Core.List.{List, [], _∷_, _++_, append-assoc, append-nil}
 use native.Mathlib.Numerals.{add-one}
 use native.Mathlib.Omega.{arith}
 use lib.ListN.{length, getD, length-append}
-use Rattle.laws.specs.Sums.{sum, flat}
+use Rattle.laws.specs.Sums.{flat}
 use Rattle.laws.specs.Rows.{rows, Summed}
 use Rattle.laws.specs.RowLaws.{rows-length, summed-more, summed-all}
 use Rattle.search.specs.declared.Answer.{Answer}
 use Rattle.search.specs.TableLaws.{flat-next}
-use Rattle.model.specs.Plan.{Lock, Task}
+use Rattle.model.specs.Plan.{Lock, Task, Mutex}
 use Rattle.model.specs.Lookup.{global}
 use Rattle.tables.specs.declared.PlanRecord.{PlanRecord}
 use Rattle.tables.specs.Layout.{cell, vcpuRow, lockRow, taskRow}
@@ -30,6 +30,11 @@ use Rattle.sizes.specs.Texts.{picked, placeText, tasksEnd, vcpusEnd}
 
 -- LINES, of a row's numbers and its answer
 
+-- whether a lock's mutex is global
+pub wait-is : (ms : List Mutex) (ts : List ℕ) (i j : ℕ) {m : ℕ} {b : Bool} → m ≡ cell ts 29 i (5 + (j * 3 + 0)) → b ≡ global ms m → b ≡ global ms (lockRow ts i j .m)
+unfolding lockRow
+wait-is ms ts i j d g = g ∙ ap (global ms) d
+
 module _ {r : PlanRecord} {vt mt ts : List ℕ} where
   pub vcpu-text : {va : List ℕ} → VcpuAnswersIn r vt mt ts va → (a : ℕ) {v : ℕ} {x : Answer} → a < r .vcpus → v ≡ cell vt 5 a 0 → x ≡ answerIn va a
       → vcpuLine (systemIn r vt mt ts) (vcpuRow vt a) ≡ vcpuText v x
@@ -42,11 +47,7 @@ module _ {r : PlanRecord} {vt mt ts : List ℕ} where
   task-text h i l e f g = task-line (systemIn r vt mt ts) (taskRow ts i) ∙ rw (e, f, g, h .at i l)
 
   -- b says whether the lock's mutex is global
-  module _ {wa : List ℕ} (h : WaitAnswersIn r vt mt ts wa) (i j : ℕ) {m : ℕ} {b : Bool} (d : m ≡ cell ts 29 i (5 + (j * 3 + 0))) (g : b ≡ global (systemIn r vt mt ts .mutexes) m) where
-    section : b ≡ global (systemIn r vt mt ts .mutexes) (lockRow ts i j .m)
-    unfolding lockRow
-    section = g ∙ ap (global (systemIn r vt mt ts .mutexes)) d
-
+  module _ {wa : List ℕ} (h : WaitAnswersIn r vt mt ts wa) (i j : ℕ) {b : Bool} (section : b ≡ global (systemIn r vt mt ts .mutexes) (lockRow ts i j .m)) where
     chosen : {c : Bool} → b ≡ c
         → placeText (systemIn r vt mt ts) (taskRow ts i) (lockRow ts i) j ≡ picked c (waitLine (systemIn r vt mt ts) (taskRow ts i) (j + 1) (lockRow ts i j))
     unfolding placeText

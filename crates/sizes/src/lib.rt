@@ -1,8 +1,10 @@
 // The size of a plan's listing.
 use tables::PlanRecord;
+ghost use mathlib.Core.Path.{_≡_};
 ghost use Prim.Native.Nat.{_<_, _≤_};
 ghost use lib.ListN.{length};
 ghost use Rattle.laws.specs.Sums.{flat};
+ghost use Rattle.model.specs.Lookup.{global};
 ghost use Rattle.tables.specs.Layout.{cell, vcpuRow, lockRow, taskRow};
 ghost use Rattle.figures.specs.Tabled.{Fit, systemIn};
 ghost use Rattle.listing.specs.Listing.{vcpuLine, waitLines, taskLines, rising, listing};
@@ -11,6 +13,7 @@ ghost use Rattle.order.specs.Ordered.{Ordered};
 ghost use Rattle.told.specs.Read.{VcpuAnswersIn, WaitAnswersIn, TaskAnswersIn, AnswersIn};
 ghost use Rattle.sizes.specs.Texts.{placeText};
 
+// The size of the line of VCPU row a.
 fn size_vcpu(r: PlanRecord, vt: &[u64], mt: &[u64], ts: &[u64], va: &[u64], a: usize) -> usize
     requires { ⌜ Fit r (now vt) (now mt) (now ts) × VcpuAnswersIn r (now vt) (now mt) (now ts) (now va) × (a < r .vcpus) ⌝ }
     ensures { λ x. ⌜ Sized (vcpuLine (systemIn r (now (vt .entry)) (now (mt .entry)) (now (ts .entry))) (vcpuRow (now (vt .entry)) a)) 75 x ⌝ }
@@ -20,6 +23,7 @@ fn size_vcpu(r: PlanRecord, vt: &[u64], mt: &[u64], ts: &[u64], va: &[u64], a: u
     writers::vcpu_size(v, x)
 }
 
+// The size of the lines of the VCPUs.
 fn size_vcpus(r: PlanRecord, vt: &[u64], mt: &[u64], ts: &[u64], va: &[u64]) -> usize
     requires { ⌜ Fit r (now vt) (now mt) (now ts) × VcpuAnswersIn r (now vt) (now mt) (now ts) (now va) ⌝ }
     ensures { λ x. ⌜ Sized (flat (vcpuLine (systemIn r (now (vt .entry)) (now (mt .entry)) (now (ts .entry)))) (systemIn r (now (vt .entry)) (now (mt .entry)) (now (ts .entry)) .vcpus)) 1200 x ⌝ }
@@ -35,6 +39,16 @@ fn size_vcpus(r: PlanRecord, vt: &[u64], mt: &[u64], ts: &[u64], va: &[u64]) -> 
     s
 }
 
+// Is the mutex of the lock at place j of task i global?
+pub fn is_wait(r: PlanRecord, vt: &[u64], mt: &[u64], ts: &[u64], i: usize, j: usize) -> bool
+    requires { ⌜ Fit r (now vt) (now mt) (now ts) × (i < r .tasks) × (j < 8) ⌝ }
+    ensures { λ x. ⌜ x ≡ global (systemIn r (now (vt .entry)) (now (mt .entry)) (now (ts .entry)) .mutexes) (lockRow (now (ts .entry)) i j .m) ⌝ }
+{
+    let m = cells::lock_cell(r, vt, mt, ts, i, j, 0);
+    cells::is_global(r, vt, mt, ts, m)
+}
+
+// The size of the line of place j of task i, 0 where its lock is local.
 fn size_wait(
     r: PlanRecord,
     vt: &[u64],
@@ -47,8 +61,7 @@ fn size_wait(
     requires { ⌜ Fit r (now vt) (now mt) (now ts) × WaitAnswersIn r (now vt) (now mt) (now ts) (now wa) × (i < r .tasks) × (j < 8) × (j < cell (now ts) 29 i 4) ⌝ }
     ensures { λ x. ⌜ Sized (placeText (systemIn r (now (vt .entry)) (now (mt .entry)) (now (ts .entry))) (taskRow (now (ts .entry)) i) (lockRow (now (ts .entry)) i) j) 110 x ⌝ }
 {
-    let m = cells::lock_cell(r, vt, mt, ts, i, j, 0);
-    if !cells::is_global(r, vt, mt, ts, m) {
+    if !is_wait(r, vt, mt, ts, i, j) {
         return 0;
     }
     let v = cells::task_cell(r, vt, mt, ts, i, 0);
@@ -57,6 +70,7 @@ fn size_wait(
     writers::wait_size(v, n, (j + 1) as u64, x)
 }
 
+// The size of the lines of the waits of task i.
 fn size_waits(r: PlanRecord, vt: &[u64], mt: &[u64], ts: &[u64], wa: &[u64], i: usize) -> usize
     requires { ⌜ Fit r (now vt) (now mt) (now ts) × WaitAnswersIn r (now vt) (now mt) (now ts) (now wa) × (i < r .tasks) ⌝ }
     ensures { λ x. ⌜ Sized (waitLines (systemIn r (now (vt .entry)) (now (mt .entry)) (now (ts .entry))) (taskRow (now (ts .entry)) i) 1 (taskRow (now (ts .entry)) i .locks)) 880 x ⌝ }
@@ -72,6 +86,7 @@ fn size_waits(r: PlanRecord, vt: &[u64], mt: &[u64], ts: &[u64], wa: &[u64], i: 
     s
 }
 
+// The size of the lines of task i.
 fn size_task(
     r: PlanRecord,
     vt: &[u64],
@@ -91,6 +106,7 @@ fn size_task(
     x + writers::task_size(v, n, a)
 }
 
+// The size of the lines of the tasks.
 fn size_tasks(
     r: PlanRecord,
     vt: &[u64],

@@ -25,7 +25,7 @@ pub record Held (place : ℕ → ℕ) (b n : ℕ) (f : ℕ → ℕ) (xs : List �
 
 -- TASKS, five numbers each: the longest global section, the sum and the number of global sections, the lengths; and the local blocking
 pub record TaskFigures (s : System) (row : ℕ → Task) (n : ℕ) (tf : List ℕ) : Type 0 where
-  pub room : 320 ≤ length tf
+  pub room : n * 5 ≤ length tf
   pub longest : Held (λ i. i * 5) 1000000 n (λ i. longestGlobal s (row i)) tf
   pub sums : Held (λ i. i * 5 + 1) 8000000 n (λ i. globalSum s (row i)) tf
   pub counts : Held (λ i. i * 5 + 2) 8 n (λ i. globalCount s (row i)) tf
@@ -75,7 +75,7 @@ pub record Stored (r : PlanRecord) (vt mt ts tf vf rf : List ℕ) : Type 0 where
   pub blockings : BlockingsIn r vt mt ts tf
   pub vcpus : VcpusIn r vt mt ts vf
   pub preemptions : PreemptionsIn r vt mt ts vf
-  pub room : 512 ≤ length rf
+  pub room : r .tasks * 8 ≤ length rf
   pub responses : ResponsesIn r vt mt ts rf
 
 -- equations 14 to 16, of a VCPU with this gap and budget

@@ -43,17 +43,17 @@ module _ {place : ℕ → ℕ} {b : ℕ} {f : ℕ → ℕ} {xs : List ℕ} where
   held-all h l = record { at = λ j m. h .at j (omega arith) }
 
 module _ {s : System} {row : ℕ → Task} {tf : List ℕ} where
-  pub tasks-none : 320 ≤ length tf → TaskFigures s row 0 tf
-  tasks-none h = record { room = h; longest = held-none; sums = held-none; counts = held-none; spans = held-none }
+  pub tasks-none : TaskFigures s row 0 tf
+  tasks-none = record { room = omega arith; longest = held-none; sums = held-none; counts = held-none; spans = held-none }
 
   -- the four stores of row i
   pub tasks-more :
-      {x y z w : ℕ} (i : ℕ) → TaskFigures s row i tf → i < 64 → Is x (longestGlobal s (row i)) 1000000 → Is y (globalSum s (row i)) 8000000 →
+      {x y z w : ℕ} (i : ℕ) → TaskFigures s row i tf → i * 5 + 5 ≤ length tf → Is x (longestGlobal s (row i)) 1000000 → Is y (globalSum s (row i)) 8000000 →
       Is z (globalCount s (row i)) 8 → Is w (lengths (row i)) 17000000 →
       TaskFigures s row (i + 1) (set (set (set (set tf (i * 5) x) (i * 5 + 1) y) (i * 5 + 2) z) (i * 5 + 3) w)
   tasks-more {x} {y} {z} {w} i h l a b c d =
       record {
-        room = simp length-set (h .room);
+        room = simp length-set (omega arith);
         longest =
             held-keep (i * 5 + 3) w
             (held-keep (i * 5 + 2) z (held-keep (i * 5 + 1) y (held-more i (h .longest) (λ j m. omega arith) (omega arith) a) (λ j m. omega arith)) (λ j m. omega arith))
@@ -85,7 +85,7 @@ module _ {s : System} {row : ℕ → Task} {tf : List ℕ} where
   pub tasks-all : {n i : ℕ} → TaskFigures s row i tf → n ≤ i → TaskFigures s row n tf
   tasks-all h l =
       record {
-        room = h .room;
+        room = omega arith;
         longest = held-all (h .longest) l;
         sums = held-all (h .sums) l;
         counts = held-all (h .counts) l;

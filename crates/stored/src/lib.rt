@@ -14,7 +14,7 @@ ghost use Rattle.model.specs.Lookup.{hasVcpu};
 ghost use Rattle.tables.specs.Layout.{vcpuRow, lockRow, taskRow};
 ghost use Rattle.figures.specs.Tabled.{Fit, systemIn};
 ghost use Rattle.figures.specs.Parts.{lowerSum, higherSum};
-ghost use Rattle.figures.specs.Figures.{vcpuAt, higherOn, lowerTask, higherTask, longestGlobal, localBlocking, ght, overrunBy, load, preemption, responseBy, response};
+ghost use Rattle.figures.specs.Figures.{vcpuAt, higherOn, lowerTask, higherTask, longestGlobal, localBlocking, ght, load, preemption, responseBy, response};
 ghost use Rattle.stored.specs.Stored.{TasksIn, BlockingsIn, VcpusIn, PreemptionsIn, sectionResponse, maxResponse, ResponsesIn, responseFor, Stored};
 
 // Writes the first four numbers of task i.
@@ -30,7 +30,7 @@ fn put_task(tf: &mut [u64], i: usize, x: u64, y: u64, z: u64, w: u64)
 
 // Stores the sections and the lengths of each task.
 fn fill_tasks(r: PlanRecord, vt: &[u64], mt: &[u64], ts: &[u64], tf: &mut [u64])
-    requires { ⌜ Fit r (now vt) (now mt) (now ts) × (320 ≤ length (now tf)) ⌝ }
+    requires { ⌜ Fit r (now vt) (now mt) (now ts) × (r .tasks * 5 ≤ length (now tf)) ⌝ }
     ensures { λ out. ⌜ TasksIn r (now (vt .entry)) (now (mt .entry)) (now (ts .entry)) (now (tf .exit)) ⌝ }
 {
     let n = r.tasks;
@@ -122,67 +122,20 @@ fn put_vcpu(vf: &mut [u64], a: usize, x: u64, y: u64)
     vf[a * 3 + 1] = y;
 }
 
-// What task h adds to the ght of VCPU v.
-fn ght_at(r: PlanRecord, vt: &[u64], mt: &[u64], ts: &[u64], tf: &[u64], v: u64, h: usize) -> u64
-    requires { ⌜ Fit r (now vt) (now mt) (now ts) × TasksIn r (now vt) (now mt) (now ts) (now tf) × (h < r .tasks) ⌝ }
-    ensures { λ x. ⌜ Is x (when (eqb (taskRow (now (ts .entry)) h .v) v) (longestGlobal (systemIn r (now (vt .entry)) (now (mt .entry)) (now (ts .entry))) (taskRow (now (ts .entry)) h))) 1000000 ⌝ }
-{
-    if cells::task_cell(r, vt, mt, ts, h, 0) == v {
-        longest_at(r, vt, mt, ts, tf, h)
-    } else {
-        0
-    }
-}
-
-// The ght of VCPU v.
-fn ght_of(r: PlanRecord, vt: &[u64], mt: &[u64], ts: &[u64], tf: &[u64], v: u64) -> u64
-    requires { ⌜ Fit r (now vt) (now mt) (now ts) × TasksIn r (now vt) (now mt) (now ts) (now tf) ⌝ }
-    ensures { λ x. ⌜ Is x (ght (systemIn r (now (vt .entry)) (now (mt .entry)) (now (ts .entry))) v) 64000000 ⌝ }
-{
-    let n = r.tasks;
-    let mut s: u64 = 0;
-    let mut h = 0;
-    while h < n {
-        let x = ght_at(r, vt, mt, ts, tf, v, h);
-        s = s + x;
-        h += 1;
-    }
-    s
-}
-
-// The overrun of a VCPU with this ght.
-fn overrun_by(overrun: OverrunChoice, g: u64) -> u64
-    ensures { λ x. ⌜ Is x (overrunBy overrun g) g ⌝ }
-{
-    match overrun {
-        OverrunChoice::WithOverrun => g,
-        OverrunChoice::WithoutOverrun => 0,
-    }
-}
-
 // Stores the ght of each VCPU, and its budget with overrun.
-fn fill_vcpus(r: PlanRecord, vt: &[u64], mt: &[u64], ts: &[u64], tf: &[u64], vf: &mut [u64])
-    requires { ⌜ Fit r (now vt) (now mt) (now ts) × TasksIn r (now vt) (now mt) (now ts) (now tf) × (48 ≤ length (now vf)) ⌝ }
+fn fill_vcpus(r: PlanRecord, vt: &[u64], mt: &[u64], ts: &[u64], vf: &mut [u64])
+    requires { ⌜ Fit r (now vt) (now mt) (now ts) × (48 ≤ length (now vf)) ⌝ }
     ensures { λ out. ⌜ VcpusIn r (now (vt .entry)) (now (mt .entry)) (now (ts .entry)) (now (vf .exit)) ⌝ }
 {
     let n = r.vcpus;
     let o = r.overrun;
     let mut a = 0;
     while a < n {
-        let g = ght_of(r, vt, mt, ts, tf, cells::vcpu_cell(r, vt, mt, ts, a, 0));
-        let x = cells::vcpu_cell(r, vt, mt, ts, a, 3) + overrun_by(o, g);
+        let g = found::ght_of(r, vt, mt, ts, cells::vcpu_cell(r, vt, mt, ts, a, 0));
+        let x = cells::vcpu_cell(r, vt, mt, ts, a, 3) + found::overrun_by(o, g);
         put_vcpu(vf, a, g, x);
         a += 1;
     }
-}
-
-// Is VCPU b a higher VCPU on the core of VCPU a?
-fn is_higher_on(r: PlanRecord, vt: &[u64], mt: &[u64], ts: &[u64], a: usize, b: usize) -> bool
-    requires { ⌜ Fit r (now vt) (now mt) (now ts) × (a < r .vcpus) × (b < r .vcpus) ⌝ }
-    ensures { λ x. ⌜ x ≡ higherOn (vcpuRow (now (vt .entry)) a) (vcpuRow (now (vt .entry)) b) ⌝ }
-{
-    let higher = cells::vcpu_cell(r, vt, mt, ts, a, 0) < cells::vcpu_cell(r, vt, mt, ts, b, 0);
-    higher & (cells::vcpu_cell(r, vt, mt, ts, b, 2) == cells::vcpu_cell(r, vt, mt, ts, a, 2))
 }
 
 // What VCPU b adds to the preemption of VCPU a.
@@ -198,7 +151,7 @@ fn preempts_by(
     requires { ⌜ Fit r (now vt) (now mt) (now ts) × VcpusIn r (now vt) (now mt) (now ts) (now vf) × (a < r .vcpus) × (b < r .vcpus) ⌝ }
     ensures { λ x. ⌜ Is x (when (higherOn (vcpuRow (now (vt .entry)) a) (vcpuRow (now (vt .entry)) b)) (ght (systemIn r (now (vt .entry)) (now (mt .entry)) (now (ts .entry))) (vcpuRow (now (vt .entry)) b .v))) 64000000 ⌝ }
 {
-    if is_higher_on(r, vt, mt, ts, a, b) {
+    if found::is_higher_on(r, vt, mt, ts, a, b) {
         vf[b * 3]
     } else {
         0
@@ -240,25 +193,7 @@ pub fn vcpu_of(r: PlanRecord, vt: &[u64], mt: &[u64], ts: &[u64], v: u64) -> usi
     requires { ⌜ Fit r (now vt) (now mt) (now ts) × (hasVcpu (rows (r .vcpus) (vcpuRow (now vt))) v ≡ true) ⌝ }
     ensures { λ x. ⌜ (x < r .vcpus) × (vcpuAt (systemIn r (now (vt .entry)) (now (mt .entry)) (now (ts .entry))) v ≡ vcpuRow (now (vt .entry)) x) ⌝ }
 {
-    let n = r.vcpus;
-    let mut a = 0;
-    while a < n {
-        let x = cells::vcpu_cell(r, vt, mt, ts, a, 0);
-        if x == v {
-            return a;
-        }
-        a += 1;
-    }
-    a
-}
-
-// Is task h a higher task of task i's VCPU?
-pub fn is_higher(r: PlanRecord, vt: &[u64], mt: &[u64], ts: &[u64], i: usize, h: usize) -> bool
-    requires { ⌜ Fit r (now vt) (now mt) (now ts) × (i < r .tasks) × (h < r .tasks) ⌝ }
-    ensures { λ x. ⌜ x ≡ higherTask (taskRow (now (ts .entry)) i) (taskRow (now (ts .entry)) h) ⌝ }
-{
-    let same = cells::task_cell(r, vt, mt, ts, h, 0) == cells::task_cell(r, vt, mt, ts, i, 0);
-    same & (cells::task_cell(r, vt, mt, ts, i, 1) < cells::task_cell(r, vt, mt, ts, h, 1))
+    found::vcpu_row(r, vt, mt, ts, v)
 }
 
 // What task h adds to the load of a section of task i.
@@ -266,7 +201,7 @@ fn load_at(r: PlanRecord, vt: &[u64], mt: &[u64], ts: &[u64], tf: &[u64], i: usi
     requires { ⌜ Fit r (now vt) (now mt) (now ts) × TasksIn r (now vt) (now mt) (now ts) (now tf) × (i < r .tasks) × (h < r .tasks) ⌝ }
     ensures { λ x. ⌜ Is x (when (higherTask (taskRow (now (ts .entry)) i) (taskRow (now (ts .entry)) h)) (longestGlobal (systemIn r (now (vt .entry)) (now (mt .entry)) (now (ts .entry))) (taskRow (now (ts .entry)) h))) 1000000 ⌝ }
 {
-    if is_higher(r, vt, mt, ts, i, h) {
+    if found::is_higher(r, vt, mt, ts, i, h) {
         longest_at(r, vt, mt, ts, tf, h)
     } else {
         0
@@ -389,7 +324,7 @@ fn fill_responses(
     vf: &[u64],
     rf: &mut [u64],
 )
-    requires { ⌜ Fit r (now vt) (now mt) (now ts) × TasksIn r (now vt) (now mt) (now ts) (now tf) × VcpusIn r (now vt) (now mt) (now ts) (now vf) × PreemptionsIn r (now vt) (now mt) (now ts) (now vf) × (512 ≤ length (now rf)) ⌝ }
+    requires { ⌜ Fit r (now vt) (now mt) (now ts) × TasksIn r (now vt) (now mt) (now ts) (now tf) × VcpusIn r (now vt) (now mt) (now ts) (now vf) × PreemptionsIn r (now vt) (now mt) (now ts) (now vf) × (r .tasks * 8 ≤ length (now rf)) ⌝ }
     ensures { λ out. ⌜ ResponsesIn r (now (vt .entry)) (now (mt .entry)) (now (ts .entry)) (now (rf .exit)) ⌝ }
 {
     let n = r.tasks * 8;
@@ -411,12 +346,12 @@ pub fn stored(
     vf: &mut [u64],
     rf: &mut [u64],
 )
-    requires { ⌜ Fit r (now vt) (now mt) (now ts) × (320 ≤ length (now tf)) × (48 ≤ length (now vf)) × (512 ≤ length (now rf)) ⌝ }
+    requires { ⌜ Fit r (now vt) (now mt) (now ts) × (r .tasks * 5 ≤ length (now tf)) × (48 ≤ length (now vf)) × (r .tasks * 8 ≤ length (now rf)) ⌝ }
     ensures { λ out. ⌜ Stored r (now (vt .entry)) (now (mt .entry)) (now (ts .entry)) (now (tf .exit)) (now (vf .exit)) (now (rf .exit)) ⌝ }
 {
     fill_tasks(r, vt, mt, ts, tf);
     fill_blockings(r, vt, mt, ts, tf);
-    fill_vcpus(r, vt, mt, ts, tf, vf);
+    fill_vcpus(r, vt, mt, ts, vf);
     fill_preemptions(r, vt, mt, ts, vf);
     fill_responses(r, vt, mt, ts, tf, vf, rf);
 }

@@ -20,22 +20,25 @@ use Rattle.model.specs.Rules.{within}
 use Rattle.seats.specs.Seats.{hasVcpu, budgetOf, overrunOf, hasTask, hasMutex, listsIt, holdsIt, waitAt}
 use Rattle.walks.specs.Walks.{holdsGlobal}
 
--- "Supply is b, plus o if policy O holds, the VCPU's tasks hold a global mutex and it is not stopped"
+-- the o of the supply
 abbrev pub reserve : OverrunChoice → Bool → Bool → ℕ → ℕ
 reserve WithOverrun held stopped o = if held && not stopped then o else 0
 reserve WithoutOverrun held stopped o = 0
 
+-- "Supply is b, plus o if policy O holds, the VCPU's tasks hold a global mutex and it is not stopped"
 abbrev pub supplyAt : OverrunChoice → List ℕ → List ℕ → List ℕ → List Bool → List ℕ → ℕ → ℕ
 supplyAt c t ls os ss hs v = getD ls (v - 1) 0 + reserve c (holdsGlobal t hs v) (getD ss (v - 1) false) (getD os (v - 1) 0)
 
--- "Under P a VCPU that stands at b = 0 when an event is complete .., with no global mutex held by its own tasks, is marked stopped"
+-- marks are set under P only
 abbrev pub underP : Policy → Bool
 underP Periodic = true
 underP Deferrable = false
 
+-- VCPU v stands at b = 0, with no global mutex held by its own tasks
 abbrev pub idle : List ℕ → List ℕ → List ℕ → ℕ → Bool
 idle t ls hs v = hasVcpu t v && (eqb (getD ls (v - 1) 0) 0 && not (holdsGlobal t hs v))
 
+-- "Under P a VCPU that stands at b = 0 when an event is complete .., with no global mutex held by its own tasks, is marked stopped"
 abbrev pub nextMark : Policy → List ℕ → List ℕ → List Bool → List ℕ → ℕ → Bool
 nextMark p t ls ss hs v = getD ss (v - 1) false || (underP p && idle t ls hs v)
 
@@ -53,7 +56,7 @@ budgetAfter ls v x = getD ls (v - 1) 0 - x
 abbrev pub overrunAfter : List ℕ → List ℕ → ℕ → ℕ → ℕ
 overrunAfter ls os v x = getD os (v - 1) 0 - (x - getD ls (v - 1) 0)
 
--- `ask v n m`: 10, 11, 12, 13 in turn; after 10, at the supply s
+-- the task (v, n) and the mutex m are in the plan, else 10
 abbrev pub known : List ℕ → ℕ → ℕ → ℕ → Bool
 known t v n m = hasTask t v n && hasMutex t m
 
@@ -61,6 +64,7 @@ known t v n m = hasTask t v n && hasMutex t m
 abbrev pub busyAt : List ℕ → List ℕ → ℕ → ℕ → Bool
 busyAt hs ws v n = not (eqb (waitAt ws v n) 0) || anyTo maxM (λ m. holdsIt hs v n m)
 
+-- `ask v n m`: 10, 11, 12, 13 in turn; after 10, at the supply s
 abbrev pub taskFault : ℕ → List ℕ → List ℕ → List ℕ → ℕ → ℕ → ℕ → Fault
 taskFault s t hs ws v n m =
     unless (listsIt t v n m) Unlisted (unless (not (eqb s 0)) Asleep (unless (not (busyAt hs ws v n)) Busy Clear))

@@ -15,12 +15,11 @@ use Rattle.model.specs.Rules.{within}
 use Rattle.model.specs.declared.Policy.{Policy}
 use Rattle.model.specs.declared.Policy.the-variants.{Deferrable}
 use Rattle.model.specs.declared.Refusal.{Refusal}
-use Rattle.model.specs.declared.Refusal.the-variants.{Unknown}
 use Rattle.model.specs.declared.Fault.{Fault}
-use Rattle.model.specs.declared.Fault.the-variants.{Clear, Bad}
-use Rattle.model.specs.JudgeLaws.{unless-clear}
+use Rattle.model.specs.declared.Fault.the-variants.{Bad}
+use Rattle.model.specs.RuleLaws.{in-range}
 use Rattle.seats.specs.Seats.{isV, isN, isM, hasVcpu, hasTask, hasMutex, taskAt, ownerAt}
-use Rattle.seats.specs.SeatLaws.{in-range, Ranges, ranges}
+use Rattle.seats.specs.SeatLaws.{Ranges, ranges}
 use Rattle.walks.specs.WalkLaws.{filled-all}
 use Rattle.supplies.specs.Supplies.{tickFault, nextMark, known}
 
@@ -58,10 +57,6 @@ unless-yes r f e = rw e
 pub unless-no : {c : Bool} (r : Refusal) (f : Fault) → c ≡ false → Bad r ≡ unless c r f
 unfolding unless
 unless-no r f e = rw e
-
--- a fault that is clear has passed its first test
-pub first-test : (c : Bool) (f : Fault) → unless c Unknown f ≡ Clear → c ≡ true
-first-test c f e = unless-clear c Unknown f .0 e .0
 
 -- NAMES IN THE PLAN are in range
 pub vcpu-range : (t : List ℕ) (v : ℕ) → hasVcpu t v ≡ true → v ≤ 16

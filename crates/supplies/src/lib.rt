@@ -3,6 +3,8 @@ use model::Fault;
 use model::OverrunChoice;
 use model::Policy;
 use model::Refusal;
+use model::unless;
+use model::within;
 use seats::both;
 use seats::either;
 use seats::no;
@@ -11,15 +13,8 @@ use seats::sub;
 ghost use mathlib.Core.Path.{_≡_};
 ghost use Prim.Native.Nat.{_+_, _≤_, min};
 ghost use Rattle.laws.specs.Range.{allTo, listTo};
-ghost use Rattle.model.specs.Refusals.{unless};
 ghost use Rattle.model.specs.Limits.{maxTicks};
 ghost use Rattle.supplies.specs.Supplies.{reserve, supplyAt, underP, idle, nextMark, tickFault, useFaultAt, budgetAfter, overrunAfter, known, busyAt, taskFault, askFaultAt, freeFaultAt, figuresGood, markGoodAt, vcpuGoodAt};
-
-fn unless(c: bool, r: Refusal, rest: Fault) -> Fault
-    ensures { λ f. ⌜ f ≡ unless c r rest ⌝ }
-{
-    if c { rest } else { Fault::Bad(r) }
-}
 
 // a + b, as far as the ticks of an event go.
 fn capped(a: u64, b: u64) -> u64
@@ -72,7 +67,7 @@ fn tick_fault(s: u64, t: u64) -> Fault
 {
     let short = unless(t <= s, Refusal::Supply, Fault::Clear);
     let asleep = unless(no(s == 0), Refusal::Asleep, short);
-    unless(seats::within(t, 1, 1000000), Refusal::Range, asleep)
+    unless(within(t, 1, 1000000), Refusal::Range, asleep)
 }
 
 // The faults of `use v t`.

@@ -7,7 +7,7 @@ use native.Mathlib.Omega.{arith}
 use lib.ListN.{length, take, drop, getD, length-append, take-append-drop, List·getD-append}
 use lib.Seq.{take-suc, getD-append-add, length-take-le}
 use Rattle.laws.specs.Sums.{flat, Each}
-use Rattle.laws.specs.SumLaws.{each-append, each-at, each-map}
+use Rattle.laws.specs.SumLaws.{each-at, each-map, flat-append, each-flat}
 use Rattle.laws.specs.Rows.{rows}
 use Rattle.laws.specs.RowLaws.{rows-same, rows-getD}
 use Rattle.tables.specs.Layout.{over}
@@ -30,16 +30,6 @@ rows-take (suc n) t h =
     ap (λ u. u ++ (getD t n 0 ∷ [])) (rows-take n t (omega arith)) ∙ sym (take-suc t n 0 l)
 
 -- ROWS ONE AFTER THE OTHER
-
-pub flat-append : {A B : Type 0} (f : A → List B) (xs ys : List A) → flat f (xs ++ ys) ≡ flat f xs ++ flat f ys
-unfolding flat
-flat-append f [] ys = refl
-flat-append f (x ∷ xs) ys = ap (λ l. f x ++ l) (flat-append f xs ys) ∙ sym (append-assoc (f x) (flat f xs) (flat f ys))
-
-pub each-flat : {A B : Type 0} (P : B → Type 0) (f : A → List B) (xs : List A) → Each (λ x. Each P (f x)) xs → Each P (flat f xs)
-unfolding flat
-each-flat P f [] h = tt
-each-flat P f (x ∷ xs) h = each-append P (f x) (flat f xs) (h .0) (each-flat P f xs (h .1))
 
 -- what holds of every row
 pub each-of : {A : Type 0} {P : A → Type 0} (xs : List A) → ((x : A) → P x) → Each P xs

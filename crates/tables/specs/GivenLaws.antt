@@ -5,13 +5,13 @@ use mathlib.Core.List.{List, [], _∷_, _++_}
 use mathlib.Core.Bool.{Bool, true, false, _&&_, _||_, or-false, false≢true}
 use mathlib.Core.Logic.{_↔_}
 use native.Mathlib.Omega.{arith}
-use borrow.Author.Tests.{leb-true, le-leb, eqb-true, eq-eqb, ne-eqb}
-use lib.Dec.{eqb, leb}
+use borrow.Author.Tests.{eqb-true, eq-eqb, ne-eqb}
+use lib.Dec.{eqb}
 use lib.ListN.{length}
-use Rattle.laws.specs.BoolLaws.{both, both-left, both-right, miss-left}
+use Rattle.laws.specs.BoolLaws.{both, both-left, both-right, miss-left, both-exactly, leb-exactly}
 use Rattle.laws.specs.Choice.{if_then_else_}
 use Rattle.laws.specs.Sums.{first, any, all, flat, Each, Chain, Some}
-use Rattle.laws.specs.SumLaws.{first-in, first-out, each-all, each-map}
+use Rattle.laws.specs.SumLaws.{first-in, first-out, each-all, each-map, each-flat}
 use Rattle.laws.specs.Rows.{rows}
 use Rattle.laws.specs.RowLaws.{rows-length, each-row, each-rows, all-found}
 use Rattle.model.specs.Limits.{maxLocks}
@@ -24,12 +24,11 @@ use Rattle.model.specs.Valid.{OwnerValid, TaskValid, SectionValid, Valid}
 use Rattle.model.specs.Text.{itemsOf}
 use Rattle.model.specs.Rules.{start, vcpuOf}
 use Rattle.model.specs.Reading.{Judge, fault, Passes, rules}
-use Rattle.model.specs.ListLaws.{chain-rest}
+use Rattle.model.specs.ListLaws.{chain-rest, rising-above}
 use Rattle.model.specs.ValidLaws.{passes-valid, valid-passes}
 use Rattle.tables.specs.Layout.{PlanRecord, Tables, vcpuWidth, mutexWidth, openWidth, taskWidth, vcpuCells, mutexCells, openCells, taskCells, over, cell, vcpuRow, mutexRow, openRow, lockRow, taskRow, filled, recordOf}
 use Rattle.tables.specs.Given.{Gives, Given, guestFor, atop, sectionsOf, planIn, roomy, zeroRest, isClear, clean, isGiven}
-use Rattle.tables.specs.FlatLaws.{each-flat, each-of, Holds, held-back, held-room}
-use Rattle.tables.specs.RisingLaws.{rising-above}
+use Rattle.tables.specs.FlatLaws.{each-of, Holds, held-back, held-room}
 use Rattle.tables.specs.LayoutLaws.{Named, Few, task-wide, vcpus-back, mutexes-back, opens-back, tasks-back, vcpus-over, mutexes-over, opens-over, tasks-over, tasks-zeros}
 
 -- SECTIONS
@@ -192,13 +191,6 @@ pub record Roomy (r : PlanRecord) (t : Tables) : Type 0 where
   pub mutexes : r .mutexes * mutexWidth ≤ length (t .mutexes)
   pub opens : r .opens * openWidth ≤ length (t .opens)
   pub tasks : r .tasks * taskWidth ≤ length (t .tasks)
-
--- a test of two, as a fact of both
-pub both-exactly : {a b : Bool} {A B : Type 0} → (a ≡ true) ↔ A → (b ≡ true) ↔ B → ((a && b) ≡ true) ↔ (A × B)
-both-exactly {a} {b} e f = (λ h. (e .0 (both-left a b h), f .0 (both-right a b h)), λ h. both a b (e .1 (h .0)) (f .1 (h .1)))
-
-leb-exactly : (a b : ℕ) → (leb a b ≡ true) ↔ (a ≤ b)
-leb-exactly a b = (leb-true a b, le-leb a b)
 
 pub roomy-exactly : (r : PlanRecord) (t : Tables) → (roomy r t ≡ true) ↔ Roomy r t
 unfolding roomy

@@ -14,7 +14,7 @@ use Rattle.laws.specs.SumLaws.{each-all, each-at, each-map}
 use Rattle.laws.specs.Rows.{rows}
 use Rattle.laws.specs.RowLaws.{rows-length, rows-same, rows-getD, all-found, each-rows}
 use Rattle.model.specs.Limits.{maxLocks}
-use Rattle.model.specs.Plan.{Vcpu, Owner, Global, Local, Mutex, Open, Lock, Task}
+use Rattle.model.specs.Plan.{Vcpu, Owner, Global, Local, Mutex, Open, Task, noLock}
 use Rattle.tables.specs.Layout.{vcpuWidth, mutexWidth, openWidth, lockWidth, firstLock, taskWidth, vcpuCells, ownerCell, mutexCells, openCells, lockCells, zeros, taskCells, over, cell, vcpuRow, ownerOf, mutexRow, openRow, lockRow, taskRow}
 use Rattle.tables.specs.Given.{zeroFrom, zeroRest}
 use Rattle.tables.specs.FlatLaws.{rows-add, each-of, flat-length, flat-cell, flat-rows, rows-back, over-rows}
@@ -81,7 +81,7 @@ opens-over n t h = over-rows openCells openWidth n (openRow t) t (λ i l. refl) 
 
 -- TASKS
 
-zeros-length : (n : ℕ) → length (zeros n) ≡ n
+pub zeros-length : (n : ℕ) → length (zeros n) ≡ n
 unfolding zeros
 zeros-length zero = refl
 zeros-length (suc n) = ap suc (zeros-length n)
@@ -135,9 +135,6 @@ task-wide k h =
 task-rest : (k : Task) (j : ℕ) → getD (taskCells k) (firstLock + j) 0 ≡ getD (flat lockCells (k .locks) ++ padding k) j 0
 task-rest k j =
     getD-append-add (k .v ∷ k .n ∷ k .period ∷ k .first ∷ length (k .locks) ∷ []) (flat lockCells (k .locks) ++ padding k) j 0
-
-noLock : Lock
-noLock = record { m = 0; ticks = 0; after = 0 }
 
 -- the cell c of lock j
 lock-cell :

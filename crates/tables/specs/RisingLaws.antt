@@ -14,11 +14,6 @@ chain-map R S P (x ∷ []) w e h = tt
 chain-map R S P (x ∷ y ∷ xs) w e h = (w x y (e .0) (e .1 .0) (h .0), chain-map R S P (y ∷ xs) w (e .1) (h .1))
 
 module _ {A : Type 0} (f : A → ℕ) where
-  -- the first is below each that follows
-  pub rising-above : (x : A) (xs : List A) → Chain (λ r s. f r < f s) (x ∷ xs) → Each (λ y. f x < f y) xs
-  rising-above x [] h = tt
-  rising-above x (y ∷ xs) h = (h .0, each-map xs (λ z l. omega (arith, h .0, l)) (rising-above y xs (h .1)))
-
   rising-room : (b : ℕ) (x : A) (xs : List A) → Chain (λ r s. f r < f s) (x ∷ xs) → Each (λ y. f y ≤ b) (x ∷ xs) → f x + length xs ≤ b
   rising-room b x [] h e = omega (arith, e .0)
   rising-room b x (y ∷ xs) h e = omega (arith, h .0, rising-room b y xs (h .1) (e .1))

@@ -4,18 +4,17 @@ use mathlib.Core.Path.{_≡_, refl}
 use mathlib.Core.List.{List, [], _∷_, _++_}
 use mathlib.Core.Bool.{true}
 use mathlib.Core.Logic.{⊎-elim}
-use native.Mathlib.Nat.{suc-mul, mul-le-mul-right}
 use native.Mathlib.Omega.{arith}
 use lib.ListN.{length, getD}
 use Rattle.laws.specs.Sums.{flat, Each}
-use Rattle.laws.specs.SumLaws.{each-append, each-map}
+use Rattle.laws.specs.SumLaws.{each-append, each-map, each-flat}
 use Rattle.laws.specs.RowLaws.{each-row}
 use Rattle.model.specs.Limits.{maxV, maxGuest, maxM, maxN, maxPeriod, maxLength, maxTasks, maxLocks}
 use Rattle.model.specs.Plan.{Vcpu, Owner, Global, Local, Mutex, Open, Lock, Task, Plan, tasksOf}
 use Rattle.model.specs.Valid.{In, PairRises, VcpuValid, OwnerValid, MutexValid, LockValid, TaskValid, Valid}
 use Rattle.tables.specs.Layout.{PlanRecord, Tables, vcpuWidth, mutexWidth, openWidth, taskWidth, zeros, vcpuCells, ownerCell, mutexCells, openCells, lockCells, taskCells, cell, vcpuRow, taskRow}
 use Rattle.tables.specs.Given.{Gives, planIn, isGiven}
-use Rattle.tables.specs.FlatLaws.{each-flat, each-of, held-each}
+use Rattle.tables.specs.FlatLaws.{each-of, held-each}
 use Rattle.tables.specs.RisingLaws.{chain-map, rising-few}
 use Rattle.tables.specs.LayoutLaws.{padding, task-wide}
 use Rattle.tables.specs.GivenLaws.{Roomy, Kept, gives-kept, tested-exactly, given-plan, tasks-valid, valid-few, row-valid, row-few}
@@ -112,10 +111,6 @@ task-small k h =
     each-append (λ c. c ≤ maxCell) (k .v ∷ k .n ∷ k .period ∷ k .first ∷ length (k .locks) ∷ []) (flat lockCells (k .locks) ++ padding k) (omega arith)
     (each-append (λ c. c ≤ maxCell) (flat lockCells (k .locks)) (padding k)
     (each-flat (λ c. c ≤ maxCell) lockCells (k .locks) (each-map (k .locks) lock-small (h .locks-valid))) (zeros-small _))
-
--- a place by its row
-pub small-at : (t : List ℕ) (n w i j : ℕ) → SmallTo (n * w) t → i < n → j < w → cell t w i j ≤ maxCell
-small-at t n w i j h l k = h (i * w + j) (omega (arith, suc-mul i w, mul-le-mul-right w l))
 
 task-row : (r : PlanRecord) (t : Tables) → Valid (planIn r t) → (i : ℕ) → i < r .tasks → TaskSound (t .tasks) i
 unfolding taskRow

@@ -9,8 +9,7 @@ use lib.ListN.{length, length-append}
 use borrow.Author.Tests.{not-true}
 use Rattle.laws.specs.Sums.{flat, Each}
 use Rattle.laws.specs.Bytes.{pieces}
-use Rattle.laws.specs.BoolLaws.{both}
-use Rattle.laws.specs.BytesLaws.{lacks, eachLacks, pieces-ended}
+use Rattle.laws.specs.BytesLaws.{pieces-ended}
 use Rattle.model.specs.Limits.{lf}
 use Rattle.model.specs.declared.Kind.{Kind}
 use Rattle.model.specs.declared.Kind.the-variants.{VcpuLine, MutexG, MutexL, OpenLine, GuestLine, TaskLine, RunLine, LockLine, EndLine}
@@ -25,8 +24,8 @@ use Rattle.model.specs.Text.{item, policyKind, vcpuItem, ownedItem, openItem, r
 use Rattle.model.specs.Rules.{Known}
 use Rattle.model.specs.Reading.{Passes, rules}
 use Rattle.model.specs.ListLaws.{append-some}
-use Rattle.model.specs.LineLaws.{item-line, line-lacks}
-use Rattle.model.specs.JudgeLaws.{fault-written}
+use Rattle.model.specs.LineLaws.{item-line}
+use Rattle.model.specs.JudgeLaws.{fault-written, lines-lack}
 use Rattle.lines.specs.declared.Said.{Said}
 use Rattle.lines.specs.Said.{saidAs, saidOf}
 use Rattle.lines.specs.SaidLaws.{item-is}
@@ -52,11 +51,6 @@ pub lines-tallied : (t : Tally) (is : List Item) → Each WrittenItem is → tal
 unfolding tallied talliedItems linesOf
 lines-tallied t [] h = refl
 lines-tallied t (i ∷ is) h = simp (append-some (linesOf is) [] [], said-line i (h .0)) (lines-tallied (tallyBy t (markOf (i .kind))) is (h .1))
-
-lines-lack : (is : List Item) → eachLacks lf (linesOf is) ≡ true
-unfolding linesOf eachLacks
-lines-lack [] = refl
-lines-lack (i ∷ is) = both (lacks lf (lineOf i)) (eachLacks lf (linesOf is)) (line-lacks i) (lines-lack is)
 
 pub text-pieces : (is : List Item) → pieces lf (textOf is) ≡ linesOf is ++ ([] ∷ [])
 unfolding textOf

@@ -48,7 +48,7 @@ fn holds_up(
     requires { ⌜ Fit r (now vt) (now mt) (now ts) × WaitsIn r (now vt) (now mt) (now ts) (now ws) (now fs) × (i < r .tasks) × (h < r .tasks) ⌝ }
     ensures { λ x. ⌜ x ≡ (higherTask (taskRow (now (ts .entry)) i) (taskRow (now (ts .entry)) h) && lacksWait (systemIn r (now (vt .entry)) (now (mt .entry)) (now (ts .entry))) (taskRow (now (ts .entry)) h)) ⌝ }
 {
-    stored::is_higher(r, vt, mt, ts, i, h) & lacks(r, vt, mt, ts, ws, fs, h)
+    found::is_higher(r, vt, mt, ts, i, h) & lacks(r, vt, mt, ts, ws, fs, h)
 }
 
 // Does a higher task of task i's VCPU lack a wait?
@@ -116,7 +116,7 @@ fn higher_rows(
     let mut n = 0;
     let mut h = 0;
     while h < count {
-        if !stored::is_higher(r, vt, mt, ts, i, h) {
+        if !found::is_higher(r, vt, mt, ts, i, h) {
             h += 1;
             continue;
         }

@@ -1,13 +1,13 @@
 -- Laws of the tests that judge no item.
 use Prim.Native.Nat.{ℕ, _+_, _*_, _/_, _≤_, _<_}
-use mathlib.Core.Path.{_≡_, refl, sym}
+use mathlib.Core.Path.{_≡_, sym}
 use mathlib.Core.Bool.{Bool, true, false}
 use mathlib.Core.Logic.{_↔_}
 use mathlib.Core.List.{List}
 use native.Mathlib.Nat.{le-div-iff-mul-le}
 use lib.Dec.{leb}
 use borrow.Author.Tests.{leb-true, le-leb, lt-leb}
-use Rattle.laws.specs.BoolLaws.{miss-left}
+use Rattle.laws.specs.BoolLaws.{miss-left, both-ways, both-exactly, leb-exactly}
 use Rattle.laws.specs.SumLaws.{each-all}
 use Rattle.laws.specs.Rows.{rows}
 use Rattle.laws.specs.RowLaws.{all-found, each-rows}
@@ -15,19 +15,12 @@ use Rattle.model.specs.Limits.{maxV, maxM, maxTasks, maxLocks}
 use Rattle.tables.specs.declared.PlanRecord.{PlanRecord}
 use Rattle.tables.specs.Layout.{taskWidth, lockWidth, firstLock, cell}
 use Rattle.tables.specs.Given.{zeroFrom, zeroRest}
-use Rattle.tables.specs.GivenLaws.{both-exactly}
 use Rattle.tidies.specs.Tests.{mostRows, few, Few, tidy, allTidy}
-
--- two tests that hold together
-pub same-test : (a b : Bool) → (a ≡ true → b ≡ true) → (b ≡ true → a ≡ true) → a ≡ b
-same-test true b f g = sym (f refl)
-same-test false true f g = g refl
-same-test false false f g = refl
 
 -- room, with no product that could wrap
 pub room-same : (n w l : ℕ) → 0 < w → leb n (l / w) ≡ leb (n * w) l
 room-same n w l h =
-    same-test (leb n (l / w)) (leb (n * w) l) (λ e. le-leb (n * w) l (le-div-iff-mul-le h .0 (leb-true n (l / w) e)))
+    both-ways (leb n (l / w)) (leb (n * w) l) (λ e. le-leb (n * w) l (le-div-iff-mul-le h .0 (leb-true n (l / w) e)))
     (λ e. le-leb n (l / w) (le-div-iff-mul-le h .1 (leb-true (n * w) l e)))
 
 -- a task by its count of locks: few, or more
@@ -41,9 +34,6 @@ module _ (t : List ℕ) (i : ℕ) {k : ℕ} (e : k ≡ cell t taskWidth i 4) whe
   tidy-many l = sym (miss-left (leb (cell t taskWidth i 4) maxLocks) (zeroRest t i) (rw e at (lt-leb k maxLocks l)))
 
 -- THE COUNTS
-leb-exactly : (a b : ℕ) → (leb a b ≡ true) ↔ (a ≤ b)
-leb-exactly a b = (leb-true a b, le-leb a b)
-
 pub few-exactly : (r : PlanRecord) → (few r ≡ true) ↔ Few r
 unfolding few
 few-exactly r =

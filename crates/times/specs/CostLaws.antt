@@ -3,11 +3,11 @@ use Prim.Native.Nat.{ℕ, zero, suc, _+_, _-_, _*_, _≤_, _<_}
 use mathlib.Core.Path.{_≡_, refl, ap, ap₂, sym, _∙_}
 use mathlib.Core.Bool.{Bool, true, false, _&&_}
 use mathlib.Core.List.{List, [], _∷_, _++_, map}
-use mathlib.Core.Logic.{_≢_}
-use native.Mathlib.Nat.{le-of-eq, mul-zero, add-zero, zero-add, add-assoc, mul-comm, mul-assoc, mul-add, add-mul}
+use native.Mathlib.Nat.{mul-zero, add-zero, zero-add, add-assoc, mul-comm, mul-assoc, mul-add, add-mul}
 use native.Mathlib.Omega.{arith}
-use borrow.Author.Tests.{lt-ltb, le-ltb}
+use borrow.Author.Tests.{lt-ltb, ltb-true, ltb-false}
 use lib.Dec.{eqb, ltb}
+use lib.ListN.{length}
 use Rattle.laws.specs.Choice.{when}
 use Rattle.laws.specs.Sums.{up, sum, only, Each}
 use Rattle.laws.specs.SumLaws.{sum-both, sum-same, each-append}
@@ -15,8 +15,8 @@ use Rattle.laws.specs.Rows.{rows, Is}
 use Rattle.laws.specs.RowLaws.{each-rows}
 use Rattle.search.specs.Search.{solve}
 use Rattle.search.specs.SearchLaws.{solve-same}
-use Rattle.search.specs.Row.{Row, Sound, share, rowsDemand}
-use Rattle.search.specs.TableLaws.{sum-pick, demand-pick, each-pick}
+use Rattle.search.specs.Row.{Row, Picked, Sound, share, rowsDemand}
+use Rattle.search.specs.TableLaws.{sum-pick, demand-pick, each-pick, picked-in, picked-out}
 use Rattle.model.specs.declared.Policy.{Policy}
 use Rattle.model.specs.declared.Policy.the-variants.{Periodic, Deferrable}
 use Rattle.model.specs.Plan.{Vcpu, Lock, Task}
@@ -29,7 +29,7 @@ use Rattle.figures.specs.Tabled.{Fit, systemIn}
 use Rattle.figures.specs.Answers.{vcpuAnswer}
 use Rattle.stored.specs.Stored.{sectionResponse}
 use Rattle.figures.specs.Figures.{lowerOn, higherOn, globalSum, ght, jitter, blockingBy, blocking, vcpuStart, vcpuDemand, response, waitStart, waitDemand}
-use Rattle.times.specs.Costs.{costs, costRow, costRows, isDeferrable, lowerTimes, blockingCost, blockingGht, higherRow, vcpuBase, vcpuRows, waitCost}
+use Rattle.times.specs.Costs.{costs, costRow, costRows, isDeferrable, lowerTimes, blockingCost, blockingGht, higherRow, vcpuBase, vcpuRows, waitCost, Added}
 
 -- SUMS
 pub sum-nil : {A : Type 0} (xs : List A) → sum (λ x. 0) xs ≡ 0
@@ -121,11 +121,6 @@ vcpu-rows-demand d s x t e =
     omega arith
 
 -- READ NUMBERS
-pub none-costs : {x : ℕ} → x ≡ 0 → ltb 0 x ≡ false
-none-costs e = le-ltb _ _ (le-of-eq e)
-
-pub some-costs : {x : ℕ} → x ≢ 0 → ltb 0 x ≡ true
-some-costs {x} h = let l : 0 < x = omega arith in lt-ltb 0 x l
 
 -- a row's numbers were read
 pub row-same : {a b c x y z : ℕ} → a ≡ x → b ≡ y → c ≡ z
@@ -133,10 +128,29 @@ pub row-same : {a b c x y z : ℕ} → a ≡ x → b ≡ y → c ≡ z
 row-same e f g = rw (e, f, g)
 
 -- a task's period and cost were read
-pub cost-row-is : (cost : Task → ℕ) (k : Task) {p c : ℕ} → p ≡ k .period → c ≡ cost k
+cost-row-is : (cost : Task → ℕ) (k : Task) {p c : ℕ} → p ≡ k .period → c ≡ cost k
     → costRow cost k ≡ record { shift = 0; period = p; cost = c }
 unfolding costRow
 cost-row-is cost k e f = row-same refl (sym e) (sym f)
+
+-- there is room for one more row
+pub cost-room : (cost : Task → ℕ) (thing : ℕ → Task) {n k i : ℕ} {xs : List ℕ} (m : ℕ) → Picked (costs cost) (costRow cost) thing [] 0 n xs k i → length xs ≡ m → 240 ≤ m → n ≤ 64 → i < n →
+    k * 3 + 3 ≤ length xs
+cost-room cost thing m h e room few l = omega (arith, h .built .few, e, room, few, l)
+
+-- one more task is looked at
+pub cost-added : (cost : Task → ℕ) (thing : ℕ → Task) {stood : List Row} {m n k k′ i p c : ℕ} {xs ys : List ℕ} →
+    Picked (costs cost) (costRow cost) thing stood m n xs k i → i < n → Added xs k p c ys k′ → p ≡ thing i .period → c ≡ cost (thing i) → k * 3 + 3 ≤ length xs →
+    Picked (costs cost) (costRow cost) thing stood m n ys k′ (i + 1)
+cost-added cost thing {stood} {m} {n} {k} {k′} {i} {p} {c} {xs} {ys} h l a ep ec room = go (ltb 0 c) refl
+  where
+    go : (b : Bool) → ltb 0 c ≡ b → Picked (costs cost) (costRow cost) thing stood m n ys k′ (i + 1)
+    go true e =
+        let w = a .some (λ z. let q = ltb-true 0 c e in omega arith) in
+        rw (w .1) (picked-in h l (ap (ltb 0) ec) e (w .0) (cost-row-is cost (thing i) ep ec) room)
+    go false e =
+        let w = a .none (let q = ltb-false 0 c e in omega arith) in
+        rw (w .0, w .1) (picked-out h l (ap (ltb 0) ec) e)
 
 jitter-is : {d : Bool} (q : Policy) (y : Vcpu) → d ≡ isDeferrable q → when d (y .period - y .budget) ≡ jitter q y
 unfolding when

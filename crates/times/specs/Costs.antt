@@ -1,11 +1,13 @@
--- The bases and the rows of the searches, as code works them out.
+-- The bases and the rows of the searches of equations 5 and 11, as code works them out.
 use Prim.Native.Nat.{ℕ, _+_, _*_}
+use mathlib.Core.Path.{_≡_}
 use mathlib.Core.Bool.{Bool, true, false, _&&_, not}
+use mathlib.Core.Logic.{_≢_}
 use mathlib.Core.List.{List, _++_, map}
 use lib.Dec.{eqb, ltb}
 use Rattle.laws.specs.Choice.{when}
 use Rattle.laws.specs.Sums.{sum, only}
-use Rattle.search.specs.Row.{Row}
+use Rattle.search.specs.Row.{Row, pushed}
 use Rattle.model.specs.declared.Policy.{Policy}
 use Rattle.model.specs.declared.Policy.the-variants.{Periodic, Deferrable}
 use Rattle.model.specs.Plan.{Vcpu, Lock, Task}
@@ -18,6 +20,11 @@ costs cost k = ltb 0 (cost k)
 
 unfoldable pub costRow : (Task → ℕ) → Task → Row
 costRow cost k = record { shift = 0; period = k .period; cost = cost k }
+
+-- rows xs, n of them, after a task of period p that costs c: ys, m of them
+pub record Added (xs : List ℕ) (n p c : ℕ) (ys : List ℕ) (m : ℕ) : Type 0 where
+  pub none : c ≡ 0 → (ys ≡ xs) × (m ≡ n)
+  pub some : c ≢ 0 → (ys ≡ pushed xs n (record { shift = 0; period = p; cost = c })) × (m ≡ n + 1)
 
 abbrev pub costRows : (Task → ℕ) → List Task → List Row
 costRows cost ks = map (costRow cost) (only (costs cost) ks)
@@ -54,6 +61,6 @@ vcpuRows d s x = costRows (blockingCost d s x) (s .tasks) ++ map (higherRow s) (
 abbrev pub responseOn : System → ℕ → Task → Lock → ℕ
 responseOn s m k l = when (eqb (l .m) m) (response s k l)
 
--- what a task of a higher VCPU costs a wait of VCPU v
+-- what a task costs a wait of VCPU v on m; 0 for a task of no higher VCPU
 unfoldable pub waitCost : System → ℕ → ℕ → Task → ℕ
 waitCost s v m k = when (ltb v (k .v)) (sum (responseOn s m k) (k .locks))

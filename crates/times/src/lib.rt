@@ -19,7 +19,7 @@ ghost use Rattle.figures.specs.Tabled.{Fit, systemIn};
 ghost use Rattle.figures.specs.Figures.{lowerOn, higherOn, waitStart, waitDemand};
 ghost use Rattle.figures.specs.Answers.{vcpuAnswer};
 ghost use Rattle.stored.specs.Stored.{TasksIn, VcpusIn, maxResponse, ResponsesIn};
-ghost use Rattle.times.specs.Costs.{isDeferrable, lowerTimes, blockingCost, blockingGht, costRows, higherRow, vcpuBase, responseOn, waitCost};
+ghost use Rattle.times.specs.Costs.{isDeferrable, lowerTimes, blockingCost, blockingGht, costRows, higherRow, vcpuBase, responseOn, waitCost, Added};
 
 // Is the policy D?
 fn is_deferrable(policy: Policy) -> bool
@@ -38,15 +38,6 @@ fn is_lower_on(r: PlanRecord, vt: &[u64], mt: &[u64], ts: &[u64], a: usize, b: u
 {
     let lower = cells::vcpu_cell(r, vt, mt, ts, b, 0) < cells::vcpu_cell(r, vt, mt, ts, a, 0);
     lower & (cells::vcpu_cell(r, vt, mt, ts, b, 2) == cells::vcpu_cell(r, vt, mt, ts, a, 2))
-}
-
-// Is VCPU b a higher VCPU on the core of VCPU a?
-fn is_higher_on(r: PlanRecord, vt: &[u64], mt: &[u64], ts: &[u64], a: usize, b: usize) -> bool
-    requires { ⌜ Fit r (now vt) (now mt) (now ts) × (a < r .vcpus) × (b < r .vcpus) ⌝ }
-    ensures { λ x. ⌜ x ≡ higherOn (vcpuRow (now (vt .entry)) a) (vcpuRow (now (vt .entry)) b) ⌝ }
-{
-    let higher = cells::vcpu_cell(r, vt, mt, ts, a, 0) < cells::vcpu_cell(r, vt, mt, ts, b, 0);
-    higher & (cells::vcpu_cell(r, vt, mt, ts, b, 2) == cells::vcpu_cell(r, vt, mt, ts, a, 2))
 }
 
 // 1 where VCPU b is a lower VCPU on the core of VCPU a, and is v.
@@ -184,6 +175,18 @@ fn vcpu_base(
     vf[a * 3 + 1] + ghts + costs
 }
 
+// Adds the row of a task with this period behind n rows, where it costs something; says how many there are then.
+fn add_cost(rows: &mut [u64], n: usize, period: u64, cost: u64) -> usize
+    requires { ⌜ n * 3 + 3 ≤ length (now rows) ⌝ }
+    ensures { λ m. ⌜ Added (now (rows .entry)) n period cost (now (rows .exit)) m ⌝ }
+{
+    if cost == 0 {
+        return n;
+    }
+    search::push_row(rows, n, 0, period, cost);
+    n + 1
+}
+
 // Writes the rows of the tasks that cost VCPU a something, and says how many.
 fn task_rows(
     r: PlanRecord,
@@ -203,12 +206,7 @@ fn task_rows(
     let mut k = 0;
     while k < count {
         let cost = blocking_cost(r, vt, mt, ts, tf, d, a, k);
-        if cost == 0 {
-            k += 1;
-            continue;
-        }
-        search::push_row(rows, n, 0, cells::task_cell(r, vt, mt, ts, k, 2), cost);
-        n += 1;
+        n = add_cost(rows, n, cells::task_cell(r, vt, mt, ts, k, 2), cost);
         k += 1;
     }
     n
@@ -261,7 +259,7 @@ fn vcpu_rows(
     let mut e = n;
     let mut b = 0;
     while b < count {
-        if !is_higher_on(r, vt, mt, ts, a, b) {
+        if !found::is_higher_on(r, vt, mt, ts, a, b) {
             b += 1;
             continue;
         }
@@ -311,7 +309,7 @@ fn section_on(
     j: usize,
     m: u64,
 ) -> u64
-    requires { ⌜ Fit r (now vt) (now mt) (now ts) × ResponsesIn r (now vt) (now mt) (now ts) (now rf) × (512 ≤ length (now rf)) × (i < r .tasks) × (j < 8) × (j < cell (now ts) 29 i 4) × (global (systemIn r (now vt) (now mt) (now ts) .mutexes) m ≡ true) ⌝ }
+    requires { ⌜ Fit r (now vt) (now mt) (now ts) × ResponsesIn r (now vt) (now mt) (now ts) (now rf) × (r .tasks * 8 ≤ length (now rf)) × (i < r .tasks) × (j < 8) × (j < cell (now ts) 29 i 4) × (global (systemIn r (now vt) (now mt) (now ts) .mutexes) m ≡ true) ⌝ }
     ensures { λ x. ⌜ Is x (responseOn (systemIn r (now (vt .entry)) (now (mt .entry)) (now (ts .entry))) m (taskRow (now (ts .entry)) i) (lockRow (now (ts .entry)) i j)) maxResponse ⌝ }
 {
     if cells::lock_cell(r, vt, mt, ts, i, j, 0) == m {
@@ -323,7 +321,7 @@ fn section_on(
 
 // The greatest response of task i's sections on m.
 fn most_on(r: PlanRecord, vt: &[u64], mt: &[u64], ts: &[u64], rf: &[u64], i: usize, m: u64) -> u64
-    requires { ⌜ Fit r (now vt) (now mt) (now ts) × ResponsesIn r (now vt) (now mt) (now ts) (now rf) × (512 ≤ length (now rf)) × (i < r .tasks) × (global (systemIn r (now vt) (now mt) (now ts) .mutexes) m ≡ true) ⌝ }
+    requires { ⌜ Fit r (now vt) (now mt) (now ts) × ResponsesIn r (now vt) (now mt) (now ts) (now rf) × (r .tasks * 8 ≤ length (now rf)) × (i < r .tasks) × (global (systemIn r (now vt) (now mt) (now ts) .mutexes) m ≡ true) ⌝ }
     ensures { λ x. ⌜ Is x (greatest (responseOn (systemIn r (now (vt .entry)) (now (mt .entry)) (now (ts .entry))) m (taskRow (now (ts .entry)) i)) (taskRow (now (ts .entry)) i .locks)) maxResponse ⌝ }
 {
     let n = cells::lock_count(r, vt, mt, ts, i);
@@ -331,7 +329,7 @@ fn most_on(r: PlanRecord, vt: &[u64], mt: &[u64], ts: &[u64], rf: &[u64], i: usi
     let mut j = 0;
     while j < n {
         let x = section_on(r, vt, mt, ts, rf, i, j, m);
-        s = cells::larger(s, x);
+        s = model::larger(s, x);
         j += 1;
     }
     s
@@ -339,7 +337,7 @@ fn most_on(r: PlanRecord, vt: &[u64], mt: &[u64], ts: &[u64], rf: &[u64], i: usi
 
 // The sum of the responses of task i's sections on m.
 fn sum_on(r: PlanRecord, vt: &[u64], mt: &[u64], ts: &[u64], rf: &[u64], i: usize, m: u64) -> u64
-    requires { ⌜ Fit r (now vt) (now mt) (now ts) × ResponsesIn r (now vt) (now mt) (now ts) (now rf) × (512 ≤ length (now rf)) × (i < r .tasks) × (global (systemIn r (now vt) (now mt) (now ts) .mutexes) m ≡ true) ⌝ }
+    requires { ⌜ Fit r (now vt) (now mt) (now ts) × ResponsesIn r (now vt) (now mt) (now ts) (now rf) × (r .tasks * 8 ≤ length (now rf)) × (i < r .tasks) × (global (systemIn r (now vt) (now mt) (now ts) .mutexes) m ≡ true) ⌝ }
     ensures { λ x. ⌜ Is x (sum (responseOn (systemIn r (now (vt .entry)) (now (mt .entry)) (now (ts .entry))) m (taskRow (now (ts .entry)) i)) (taskRow (now (ts .entry)) i .locks)) 520008712000000 ⌝ }
 {
     let n = cells::lock_count(r, vt, mt, ts, i);
@@ -364,7 +362,7 @@ fn most_lower(
     m: u64,
     i: usize,
 ) -> u64
-    requires { ⌜ Fit r (now vt) (now mt) (now ts) × ResponsesIn r (now vt) (now mt) (now ts) (now rf) × (512 ≤ length (now rf)) × (i < r .tasks) × (global (systemIn r (now vt) (now mt) (now ts) .mutexes) m ≡ true) ⌝ }
+    requires { ⌜ Fit r (now vt) (now mt) (now ts) × ResponsesIn r (now vt) (now mt) (now ts) (now rf) × (r .tasks * 8 ≤ length (now rf)) × (i < r .tasks) × (global (systemIn r (now vt) (now mt) (now ts) .mutexes) m ≡ true) ⌝ }
     ensures { λ x. ⌜ Is x (when (ltb (taskRow (now (ts .entry)) i .v) v) (greatest (responseOn (systemIn r (now (vt .entry)) (now (mt .entry)) (now (ts .entry))) m (taskRow (now (ts .entry)) i)) (taskRow (now (ts .entry)) i .locks))) maxResponse ⌝ }
 {
     if cells::task_cell(r, vt, mt, ts, i, 0) < v {
@@ -376,7 +374,7 @@ fn most_lower(
 
 // The start of a wait of VCPU v for m.
 fn wait_start(r: PlanRecord, vt: &[u64], mt: &[u64], ts: &[u64], rf: &[u64], v: u64, m: u64) -> u64
-    requires { ⌜ Fit r (now vt) (now mt) (now ts) × ResponsesIn r (now vt) (now mt) (now ts) (now rf) × (512 ≤ length (now rf)) × (global (systemIn r (now vt) (now mt) (now ts) .mutexes) m ≡ true) ⌝ }
+    requires { ⌜ Fit r (now vt) (now mt) (now ts) × ResponsesIn r (now vt) (now mt) (now ts) (now rf) × (r .tasks * 8 ≤ length (now rf)) × (global (systemIn r (now vt) (now mt) (now ts) .mutexes) m ≡ true) ⌝ }
     ensures { λ x. ⌜ Is x (waitStart (systemIn r (now (vt .entry)) (now (mt .entry)) (now (ts .entry))) v m) maxResponse ⌝ }
 {
     let n = r.tasks;
@@ -384,7 +382,7 @@ fn wait_start(r: PlanRecord, vt: &[u64], mt: &[u64], ts: &[u64], rf: &[u64], v: 
     let mut i = 0;
     while i < n {
         let x = most_lower(r, vt, mt, ts, rf, v, m, i);
-        s = cells::larger(s, x);
+        s = model::larger(s, x);
         i += 1;
     }
     s
@@ -401,7 +399,7 @@ fn wait_cost(
     m: u64,
     i: usize,
 ) -> u64
-    requires { ⌜ Fit r (now vt) (now mt) (now ts) × ResponsesIn r (now vt) (now mt) (now ts) (now rf) × (512 ≤ length (now rf)) × (i < r .tasks) × (global (systemIn r (now vt) (now mt) (now ts) .mutexes) m ≡ true) ⌝ }
+    requires { ⌜ Fit r (now vt) (now mt) (now ts) × ResponsesIn r (now vt) (now mt) (now ts) (now rf) × (r .tasks * 8 ≤ length (now rf)) × (i < r .tasks) × (global (systemIn r (now vt) (now mt) (now ts) .mutexes) m ≡ true) ⌝ }
     ensures { λ x. ⌜ Is x (waitCost (systemIn r (now (vt .entry)) (now (mt .entry)) (now (ts .entry))) v m (taskRow (now (ts .entry)) i)) 520008712000000 ⌝ }
 {
     if v < cells::task_cell(r, vt, mt, ts, i, 0) {
@@ -413,7 +411,7 @@ fn wait_cost(
 
 // What all tasks cost a wait of VCPU v for m.
 fn wait_costs(r: PlanRecord, vt: &[u64], mt: &[u64], ts: &[u64], rf: &[u64], v: u64, m: u64) -> u64
-    requires { ⌜ Fit r (now vt) (now mt) (now ts) × ResponsesIn r (now vt) (now mt) (now ts) (now rf) × (512 ≤ length (now rf)) × (global (systemIn r (now vt) (now mt) (now ts) .mutexes) m ≡ true) ⌝ }
+    requires { ⌜ Fit r (now vt) (now mt) (now ts) × ResponsesIn r (now vt) (now mt) (now ts) (now rf) × (r .tasks * 8 ≤ length (now rf)) × (global (systemIn r (now vt) (now mt) (now ts) .mutexes) m ≡ true) ⌝ }
     ensures { λ x. ⌜ Is x (sum (waitCost (systemIn r (now (vt .entry)) (now (mt .entry)) (now (ts .entry))) v m) (rowsOf (r .tasks) (taskRow (now (ts .entry))))) 33280557568000000 ⌝ }
 {
     let n = r.tasks;
@@ -438,7 +436,7 @@ fn wait_rows(
     v: u64,
     m: u64,
 ) -> usize
-    requires { ⌜ Fit r (now vt) (now mt) (now ts) × ResponsesIn r (now vt) (now mt) (now ts) (now rf) × (512 ≤ length (now rf)) × (global (systemIn r (now vt) (now mt) (now ts) .mutexes) m ≡ true) × (240 ≤ length (now rows)) ⌝ }
+    requires { ⌜ Fit r (now vt) (now mt) (now ts) × ResponsesIn r (now vt) (now mt) (now ts) (now rf) × (r .tasks * 8 ≤ length (now rf)) × (global (systemIn r (now vt) (now mt) (now ts) .mutexes) m ≡ true) × (240 ≤ length (now rows)) ⌝ }
     ensures { λ n. ⌜ (n ≤ 64) × (rowsIn (now (rows .exit)) n ≡ costRows (waitCost (systemIn r (now (vt .entry)) (now (mt .entry)) (now (ts .entry))) v m) (rowsOf (r .tasks) (taskRow (now (ts .entry))))) ⌝ }
 {
     let count = r.tasks;
@@ -446,12 +444,7 @@ fn wait_rows(
     let mut k = 0;
     while k < count {
         let cost = wait_cost(r, vt, mt, ts, rf, v, m, k);
-        if cost == 0 {
-            k += 1;
-            continue;
-        }
-        search::push_row(rows, n, 0, cells::task_cell(r, vt, mt, ts, k, 2), cost);
-        n += 1;
+        n = add_cost(rows, n, cells::task_cell(r, vt, mt, ts, k, 2), cost);
         k += 1;
     }
     n
@@ -469,7 +462,7 @@ pub fn wait_answer(
     m: u64,
     limit: u64,
 ) -> Answer
-    requires { ⌜ Fit r (now vt) (now mt) (now ts) × ResponsesIn r (now vt) (now mt) (now ts) (now rf) × (512 ≤ length (now rf)) × (global (systemIn r (now vt) (now mt) (now ts) .mutexes) m ≡ true) × (240 ≤ length (now rows)) × (limit ≤ 1000000) ⌝ }
+    requires { ⌜ Fit r (now vt) (now mt) (now ts) × ResponsesIn r (now vt) (now mt) (now ts) (now rf) × (r .tasks * 8 ≤ length (now rf)) × (global (systemIn r (now vt) (now mt) (now ts) .mutexes) m ≡ true) × (240 ≤ length (now rows)) × (limit ≤ 1000000) ⌝ }
     ensures { λ x. ⌜ x ≡ solve (waitDemand (systemIn r (now (vt .entry)) (now (mt .entry)) (now (ts .entry))) v m) (waitStart (systemIn r (now (vt .entry)) (now (mt .entry)) (now (ts .entry))) v m) limit ⌝ }
 {
     let start = wait_start(r, vt, mt, ts, rf, v, m);

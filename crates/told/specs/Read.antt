@@ -41,12 +41,12 @@ pub record VcpuAnswersIn (r : PlanRecord) (vt mt ts va : List ℕ) : Type 0 wher
   pub at : (a : ℕ) → a < r .vcpus → answerIn va a ≡ vcpuAnswer (systemIn r vt mt ts) (vcpuRow vt a)
 
 pub record WaitAnswersIn (r : PlanRecord) (vt mt ts wa : List ℕ) : Type 0 where
-  pub room : 1536 ≤ length wa
+  pub room : r .tasks * 24 ≤ length wa
   pub at : (i j : ℕ) → i < r .tasks → j < cell ts 29 i 4 → global (systemIn r vt mt ts .mutexes) (lockRow ts i j .m) ≡ true
       → answerIn wa (i * 8 + j) ≡ waitAnswer (systemIn r vt mt ts) (taskRow ts i) (lockRow ts i j)
 
 pub record TaskAnswersIn (r : PlanRecord) (vt mt ts ta : List ℕ) : Type 0 where
-  pub room : 192 ≤ length ta
+  pub room : r .tasks * 3 ≤ length ta
   pub at : (i : ℕ) → i < r .tasks → taskAnswerIn ta i ≡ taskAnswer (systemIn r vt mt ts) (taskRow ts i)
 
 pub record AnswersIn (r : PlanRecord) (vt mt ts va wa ta : List ℕ) : Type 0 where

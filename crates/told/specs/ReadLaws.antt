@@ -99,13 +99,12 @@ module _ {r : PlanRecord} {vt mt ts : List ℕ} (fit : Fit r vt mt ts) where
         at = λ a l. answer-read va a (vcpuAnswer s (vcpuRow vt a)) (row-read f (vcpuRow vt) (r .vcpus) va₀ va _ e g a l);
       }
 
-  pub tasks-in : (ta₀ : List ℕ) {ta : List ℕ} → 192 ≤ length ta₀ → length ta ≡ length ta₀ → ta ≡ over (taskAnswers (systemIn r vt mt ts)) ta₀ → TaskAnswersIn r vt mt ts ta
+  pub tasks-in : (ta₀ : List ℕ) {ta : List ℕ} → r .tasks * 3 ≤ length ta₀ → length ta ≡ length ta₀ → ta ≡ over (taskAnswers (systemIn r vt mt ts)) ta₀ → TaskAnswersIn r vt mt ts ta
   unfolding systemIn
   tasks-in ta₀ {ta} h m e =
       let s = systemIn r vt mt ts in
       let f : Task → Row = λ x. taskAnswerRow (taskAnswer s x) in
-      let c : r .tasks * 3 ≤ length ta₀ = omega (arith, fit .tasks-few) in
-      let g = tasks-over s ts refl (front-filled f (taskRow ts) (r .tasks) ta₀ c) (le-refl (r .tasks)) in
+      let g = tasks-over s ts refl (front-filled f (taskRow ts) (r .tasks) ta₀ h) (le-refl (r .tasks)) in
       record {
         room = omega arith;
         at = λ i l. task-read ta i (taskAnswer s (taskRow ts i)) (row-read f (taskRow ts) (r .tasks) ta₀ ta _ e g i l);
@@ -121,12 +120,12 @@ module _ {r : PlanRecord} {vt mt ts : List ℕ} (fit : Fit r vt mt ts) where
       ap₂ (placeRow s ts) a b
       ∙ sym (place-section s ts i j (sym (both (ltb j (cell ts 29 i 4)) (global (s .mutexes) (lockRow ts i j .m)) (lt-ltb j (cell ts 29 i 4) c) g)) refl)
 
-  waits-in : (wa₀ : List ℕ) {wa : List ℕ} → 1536 ≤ length wa₀ → length wa ≡ length wa₀ → wa ≡ over (waitAnswers (systemIn r vt mt ts)) wa₀ → WaitAnswersIn r vt mt ts wa
+  waits-in : (wa₀ : List ℕ) {wa : List ℕ} → r .tasks * 24 ≤ length wa₀ → length wa ≡ length wa₀ → wa ≡ over (waitAnswers (systemIn r vt mt ts)) wa₀ → WaitAnswersIn r vt mt ts wa
   unfolding systemIn
   waits-in wa₀ {wa} h m e =
       let s = systemIn r vt mt ts in
       let f = placeAt s ts in
-      let c : r .tasks * 8 * 3 ≤ length wa₀ = omega (arith, fit .tasks-few) in
+      let c : r .tasks * 8 * 3 ≤ length wa₀ = omega arith in
       let g = waits-over s ts (r .tasks) refl (fit .task-locks) (front-filled f (λ k. k) (r .tasks * 8) wa₀ c) (le-refl (r .tasks * 8)) in
       record {
         room = omega arith;
@@ -138,8 +137,8 @@ module _ {r : PlanRecord} {vt mt ts : List ℕ} (fit : Fit r vt mt ts) where
 
   -- from the contract of the answers' code
   pub answers-in : (va₀ wa₀ ta₀ : List ℕ) {va wa ta : List ℕ} → 48 ≤ length va₀ → length va ≡ length va₀ → va ≡ over (vcpuAnswers (systemIn r vt mt ts)) va₀
-      → 1536 ≤ length wa₀ → length wa ≡ length wa₀ → wa ≡ over (waitAnswers (systemIn r vt mt ts)) wa₀
-      → 192 ≤ length ta₀ → length ta ≡ length ta₀ → ta ≡ over (taskAnswers (systemIn r vt mt ts)) ta₀ → AnswersIn r vt mt ts va wa ta
+      → r .tasks * 24 ≤ length wa₀ → length wa ≡ length wa₀ → wa ≡ over (waitAnswers (systemIn r vt mt ts)) wa₀
+      → r .tasks * 3 ≤ length ta₀ → length ta ≡ length ta₀ → ta ≡ over (taskAnswers (systemIn r vt mt ts)) ta₀ → AnswersIn r vt mt ts va wa ta
   answers-in va₀ wa₀ ta₀ a b c d e f g h i = record { vcpus = vcpus-in va₀ a b c; waits = waits-in wa₀ d e f; tasks = tasks-in ta₀ g h i }
 
 -- WHETHER ALL FIT

@@ -80,34 +80,34 @@ pub fn all_fit(r: PlanRecord, vt: &[u64], mt: &[u64], ts: &[u64], va: &[u64], ta
     rows_fit(va, r.vcpus) & rows_fit(ta, r.tasks)
 }
 
-// Fills every answer of the plan in the tables.
+// Fills every answer of the plan in the tables; tf and rf are scratch.
 pub fn fill_answers(
     r: PlanRecord,
     vt: &[u64],
     mt: &[u64],
     ts: &[u64],
+    tf: &mut [u64],
+    rf: &mut [u64],
     va: &mut [u64],
     wa: &mut [u64],
     ta: &mut [u64],
 )
-    requires { ⌜ Fit r (now vt) (now mt) (now ts) × (48 ≤ length (now va)) × (1536 ≤ length (now wa)) × (192 ≤ length (now ta)) ⌝ }
+    requires { ⌜ Fit r (now vt) (now mt) (now ts) × (r .tasks * 5 ≤ length (now tf)) × (r .tasks * 8 ≤ length (now rf)) × (48 ≤ length (now va)) × (r .tasks * 24 ≤ length (now wa)) × (r .tasks * 3 ≤ length (now ta)) ⌝ }
     ensures { λ _. ⌜ AnswersIn r (now (vt .entry)) (now (mt .entry)) (now (ts .entry)) (now (va .exit)) (now (wa .exit)) (now (ta .exit)) ⌝ }
 {
-    let mut tf = [0u64; 320];
     let mut vf = [0u64; 48];
-    let mut rf = [0u64; 512];
     let mut rows = [0u64; 240];
     let mut ws = [0u64; 64];
     let mut fs = [0u64; 64];
-    stored::stored(r, vt, mt, ts, &mut tf, &mut vf, &mut rf);
+    stored::stored(r, vt, mt, ts, tf, &mut vf, rf);
     answers::answers(
         r,
         vt,
         mt,
         ts,
-        &tf,
+        tf,
         &vf,
-        &rf,
+        rf,
         &mut rows,
         &mut ws,
         &mut fs,

@@ -1,13 +1,8 @@
 // Whose turn it is, on a board's arrays and the view of a plan: who may have a mutex, who is next, and with which priority. Holder by mutex, waits by seat.
+use model::larger;
 ghost use mathlib.Core.Path.{_≡_};
-ghost use Prim.Native.Nat.{_≤_, max};
+ghost use Prim.Native.Nat.{_≤_};
 ghost use Rattle.turns.specs.Turns.{mayHaveAt, waiterV, waiterN, localNextAt, priorityAt, vcpuPriorityAt};
-
-fn most(a: u64, b: u64) -> u64
-    ensures { λ r. ⌜ r ≡ max a b ⌝ }
-{
-    if a < b { b } else { a }
-}
 
 // A global mutex is free; for a local one the task passes the test.
 pub fn may_have(view: &[u64], holder: &[u16], v: u64, n: u64, m: u64) -> bool
@@ -29,7 +24,7 @@ pub fn waiter_v(waits: &[u8], m: u64) -> u64
     walks::row_with(rows, m as u8)
 }
 
-// The highest task of v that waits for m, from its row; 0 where v is 0.
+// The highest task of v that waits for m, from its row; 0 for none, and where v is 0.
 pub fn waiter_n(waits: &[u8], v: u64, m: u64) -> u64
     requires { ⌜ (v ≤ 16) × (m ≤ 32) ⌝ }
     ensures { λ r. ⌜ (r ≡ waiterN (now (waits .entry)) m v) × (r ≤ 8) ⌝ }
@@ -64,7 +59,7 @@ pub fn task_priority<'a>(view: &[u64], holder: &'a [u16], waits: &'a [u8], v: u6
     if m == 0 {
         return n;
     }
-    most(
+    larger(
         n,
         walks::local_under(view, waits, v, seats::ceiling(view, m)),
     )

@@ -1,5 +1,5 @@
--- Laws of the code that writes the view: the highest name that passes, and the cells by their places.
-use Prim.Native.Nat.{ℕ, zero, suc, _+_, _-_, _*_, _/_, _%_, _<_, _≤_}
+-- Laws of the code that writes the view: the cells by their places.
+use Prim.Native.Nat.{ℕ, _+_, _-_, _*_, _/_, _%_, _<_, _≤_}
 use mathlib.Core.Path.{_≡_, refl, ap, sym, _∙_}
 use mathlib.Core.Bool.{Bool, true, false, _&&_}
 use mathlib.Core.List.{List}
@@ -10,9 +10,6 @@ use lib.ListN.{length, getD, set, take, length-set}
 use lib.Seq.{getD-set-same, getD-set-other, getD-take}
 use Rattle.laws.specs.BoolLaws.{both-left, both-right, both}
 use Rattle.laws.specs.Choice.{when}
-use Rattle.laws.specs.Sums.{first}
-use Rattle.laws.specs.Range.{highest}
-use Rattle.laws.specs.RangeLaws.{highest-hit, highest-miss}
 use Rattle.model.specs.Limits.{maxV, maxM, maxN}
 use Rattle.model.specs.declared.Policy.{Policy}
 use Rattle.model.specs.declared.OverrunChoice.{OverrunChoice}
@@ -26,29 +23,6 @@ use Rattle.lockboard.specs.View.{atOverrun, atOwner, atCeiling, atTask, atLists
 use Rattle.lockboard.specs.Board.{seat}
 use Rattle.views.specs.ViewOf.{bit, ownerOf, viewOf}
 use Rattle.views.specs.ViewLaws.{name-in, in-name, facts-in, budget-cell, overrun-cell, owner-cell, ceiling-cell, task-cell, sheet-cell}
-
--- THE HIGHEST NAME THAT PASSES, from n down: none above v does
-pub record Above (n : ℕ) (f : ℕ → Bool) (v : ℕ) : Type 0 where
-  pub within : v ≤ n
-  pub is : highest n f ≡ highest v f
-
-module _ {n : ℕ} {f : ℕ → Bool} where
-  pub above-none : Above n f n
-  above-none = record { within = omega arith; is = refl }
-
-  pub above-more : {v : ℕ} {t : Bool} → Above n f v → 0 < v → t ≡ f v → t ≡ false → Above n f (v - 1)
-  above-more {v = zero} h l e k = absurd (omega arith)
-  above-more {v = suc v} h l e k =
-      let z : suc v - 1 ≡ v = omega arith in rw z (record { within = omega (arith, h .within); is = h .is ∙ highest-miss v f (sym e ∙ k) })
-
-  pub above-out : {v : ℕ} {t : Bool} → Above n f v → 0 < v → t ≡ f v → t ≡ true → v ≡ highest n f
-  above-out {v = zero} h l e k = absurd (omega arith)
-  above-out {v = suc v} h l e k = sym (h .is ∙ highest-hit v f (sym e ∙ k))
-
-  pub above-all : {v : ℕ} → Above n f v → v ≤ 0 → 0 ≡ highest n f
-  unfolding highest
-  above-all {v = zero} h l = sym (h .is)
-  above-all {v = suc v} h l = absurd (omega arith)
 
 -- the overrun of a VCPU, by its ght
 pub overrun-is : {x g : ℕ} (s : System) (v : ℕ) → x ≡ overrunBy (s .overrun) g → g ≡ ght s v → x ≡ overrunOf s v

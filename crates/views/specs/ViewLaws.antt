@@ -7,7 +7,7 @@ use native.Mathlib.Omega.{arith}
 use borrow.Author.Tests.{eqb-true, ltb-true, leb-true, lt-ltb, le-leb, eq-eqb}
 use lib.Dec.{eqb, ltb, leb}
 use lib.ListN.{length, getD, length-append}
-use Rattle.laws.specs.BoolLaws.{both-left, both-right, both, neither-left, neither-right}
+use Rattle.laws.specs.BoolLaws.{both-left, both-right, both, neither-left, neither-right, both-ways}
 use Rattle.laws.specs.Choice.{when}
 use Rattle.laws.specs.Sums.{any, greatest, flat}
 use Rattle.laws.specs.Range.{listTo, flatTo}
@@ -49,11 +49,6 @@ ranged-number : (r : Bool) {x y : ℕ} → (r ≡ true → x ≡ y) → (r ≡ f
 unfolding when
 ranged-number true a b = a refl
 ranged-number false a b = sym (b refl)
-
--- two tests that imply each other
-both-ways : (t f : Bool) → (t ≡ true → f ≡ true) → (f ≡ true → t ≡ true) → t ≡ f
-both-ways true f a b = sym (a refl)
-both-ways false f a b = sym (is-false f (λ e. clash (b e) refl))
 
 bit-test : (t : Bool) → ltb 0 (bit t) ≡ t
 unfolding when

@@ -1,18 +1,15 @@
 // A plan's view: what the board asks of it, in one list of numbers.
-use model::OverrunChoice;
 use tables::PlanRecord;
 ghost use mathlib.Core.Path.{_≡_};
 ghost use mathlib.Core.Bool.{_&&_};
 ghost use Prim.Native.Nat.{_<_, _≤_};
-ghost use lib.Dec.{eqb};
 ghost use lib.ListN.{length, getD, take};
-ghost use Rattle.laws.specs.Choice.{when};
 ghost use Rattle.laws.specs.Range.{highest};
 ghost use Rattle.laws.specs.Rows.{Is};
 ghost use Rattle.model.specs.Lookup.{localTo};
 ghost use Rattle.tables.specs.Layout.{taskRow};
 ghost use Rattle.figures.specs.Tabled.{Fit, systemIn};
-ghost use Rattle.figures.specs.Figures.{vcpuAt, longestGlobal, ght, overrunBy, overrunOf};
+ghost use Rattle.figures.specs.Figures.{vcpuAt, overrunOf};
 ghost use Rattle.figures.specs.Named.{hasTask};
 ghost use Rattle.lockboard.specs.View.{isV, isN, isM};
 ghost use Rattle.views.specs.ViewOf.{bit, ownerOf, viewOf};
@@ -24,53 +21,11 @@ fn budget_of(r: PlanRecord, vt: &[u64], mt: &[u64], ts: &[u64], v: u64) -> u64
     ensures { λ x. ⌜ x ≡ vcpuAt (systemIn r (now (vt .entry)) (now (mt .entry)) (now (ts .entry))) v .budget ⌝ }
 {
     let n = r.vcpus;
-    let mut a = 0;
-    while a < n {
-        let x = cells::vcpu_cell(r, vt, mt, ts, a, 0);
-        if x == v {
-            return cells::vcpu_cell(r, vt, mt, ts, a, 3);
-        }
-        a += 1;
+    let a = found::vcpu_row(r, vt, mt, ts, v);
+    if n <= a {
+        return 0;
     }
-    0
-}
-
-// What task h adds to the ght of VCPU v.
-fn ght_at(r: PlanRecord, vt: &[u64], mt: &[u64], ts: &[u64], v: u64, h: usize) -> u64
-    requires { ⌜ Fit r (now vt) (now mt) (now ts) × (h < r .tasks) ⌝ }
-    ensures { λ x. ⌜ Is x (when (eqb (taskRow (now (ts .entry)) h .v) v) (longestGlobal (systemIn r (now (vt .entry)) (now (mt .entry)) (now (ts .entry))) (taskRow (now (ts .entry)) h))) 1000000 ⌝ }
-{
-    if cells::task_cell(r, vt, mt, ts, h, 0) == v {
-        cells::longest_global(r, vt, mt, ts, h)
-    } else {
-        0
-    }
-}
-
-// The ght of VCPU v.
-fn ght_of(r: PlanRecord, vt: &[u64], mt: &[u64], ts: &[u64], v: u64) -> u64
-    requires { ⌜ Fit r (now vt) (now mt) (now ts) ⌝ }
-    ensures { λ x. ⌜ Is x (ght (systemIn r (now (vt .entry)) (now (mt .entry)) (now (ts .entry))) v) 64000000 ⌝ }
-{
-    let n = r.tasks;
-    let mut s: u64 = 0;
-    let mut h = 0;
-    while h < n {
-        let x = ght_at(r, vt, mt, ts, v, h);
-        s = s + x;
-        h += 1;
-    }
-    s
-}
-
-// The overrun of a VCPU with this ght.
-fn overrun_by(overrun: OverrunChoice, g: u64) -> u64
-    ensures { λ x. ⌜ x ≡ overrunBy overrun g ⌝ }
-{
-    match overrun {
-        OverrunChoice::WithOverrun => g,
-        OverrunChoice::WithoutOverrun => 0,
-    }
+    cells::vcpu_cell(r, vt, mt, ts, a, 3)
 }
 
 // The overrun of VCPU v.
@@ -79,7 +34,7 @@ fn overrun_of(r: PlanRecord, vt: &[u64], mt: &[u64], ts: &[u64], v: u64) -> u64
     ensures { λ x. ⌜ x ≡ overrunOf (systemIn r (now (vt .entry)) (now (mt .entry)) (now (ts .entry))) v ⌝ }
 {
     let o = r.overrun;
-    overrun_by(o, ght_of(r, vt, mt, ts, v))
+    found::overrun_by(o, found::ght_of(r, vt, mt, ts, v))
 }
 
 // The VCPU that m is local to, 0 for none.
@@ -115,14 +70,7 @@ fn has_task(r: PlanRecord, vt: &[u64], mt: &[u64], ts: &[u64], v: u64, n: u64) -
     ensures { λ x. ⌜ x ≡ hasTask (systemIn r (now (vt .entry)) (now (mt .entry)) (now (ts .entry))) v n ⌝ }
 {
     let e = r.tasks;
-    let mut a = 0;
-    while a < e {
-        if cells::row_task(r, vt, mt, ts, a, v, n) {
-            return true;
-        }
-        a += 1;
-    }
-    false
+    found::task_row(r, vt, mt, ts, v, n) < e
 }
 
 // 1 where the test holds, else 0.

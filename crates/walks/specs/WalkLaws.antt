@@ -1,9 +1,8 @@
 -- Loops over the numbers from 1 to n: before the first, one more, a way out, after the last. And the seats of a VCPU.
 use Prim.Native.Nat.{ℕ, zero, suc, _+_, _-_, _*_, _<_, _≤_}
 use mathlib.Core.Path.{_≡_, refl, sym, _∙_, ap}
-use mathlib.Core.Bool.{Bool, true, false, _&&_, _||_, not, and-true}
+use mathlib.Core.Bool.{Bool, true, false, _&&_, not, and-true}
 use mathlib.Core.List.{List, []}
-use mathlib.Core.Logic.{⊎-elim}
 use native.Mathlib.Nat.{le-antisymm}
 use native.Mathlib.Numerals.{add-one}
 use native.Mathlib.Omega.{arith}
@@ -14,9 +13,9 @@ use lib.ListN.{length, getD, set, length-set}
 use lib.Seq.{ext-getD, getD-set-same, getD-set-other}
 use Rattle.laws.specs.BoolLaws.{both-left, both-right, both}
 use Rattle.laws.specs.Range.{anyTo, allTo, highest, listTo}
-use Rattle.laws.specs.RangeLaws.{any-none, any-more, any-hit, none-of, all-none, all-more, all-miss, highest-none, highest-more, highest-skip, highest-zero, highest-same, highest-passes, highest-le, list-length, list-at}
+use Rattle.laws.specs.RangeLaws.{any-none, any-more, any-hit, none-of, all-none, all-more, all-miss, highest-zero, highest-same, highest-passes, highest-le, list-length, list-at}
 use Rattle.model.specs.Limits.{maxV, maxN}
-use Rattle.seats.specs.Seats.{seatOf, waitAt}
+use Rattle.seats.specs.Seats.{seat, waitAt}
 use Rattle.walks.specs.Walks.{rowOf, rowsOf, columnOf, rowWith}
 
 -- none of 1 to i, of 1 to n, passes
@@ -28,11 +27,6 @@ pub record Lack (n : ℕ) (f : ℕ → Bool) (i : ℕ) : Type 0 where
 pub record Pass (n : ℕ) (f : ℕ → Bool) (i : ℕ) : Type 0 where
   pub within : i ≤ n
   pub is : allTo i f ≡ true
-
--- none above k, of 1 to n, passes
-pub record Down (n : ℕ) (f : ℕ → Bool) (k : ℕ) : Type 0 where
-  pub within : k ≤ n
-  pub is : highest n f ≡ highest k f
 
 -- the places of 1 to i, of 1 to n, are filled
 pub record Filled {A : Type 0} (d : A) (n : ℕ) (f : ℕ → A) (xs : List A) (i : ℕ) : Type 0 where
@@ -65,22 +59,6 @@ module _ {n : ℕ} {f : ℕ → Bool} where
   pub pass-all : {i : ℕ} → Pass n f i → n ≤ i → true ≡ allTo n f
   pass-all h l = rw (le-antisymm l (h .within)) (sym (h .is))
 
-  pub down-none : Down n f n
-  down-none = record { within = omega arith; is = refl }
-
-  pub down-more : {b : Bool} {k : ℕ} → Down n f k → 0 < k → b ≡ f k → b ≡ false → Down n f (k - 1)
-  down-more {k} h l e q =
-      let p : k ≡ (k - 1) + 1 = omega arith in
-      record { within = omega arith; is = h .is ∙ (ap (λ j. highest j f) p ∙ highest-skip (k - 1) f (ap f (sym p) ∙ (sym e ∙ q))) }
-
-  pub down-out : {b : Bool} {k : ℕ} → Down n f k → 0 < k → b ≡ f k → b ≡ true → k ≡ highest n f
-  down-out {k} h l e q =
-      let p : k ≡ (k - 1) + 1 = omega arith in
-      p ∙ sym (h .is ∙ (ap (λ j. highest j f) p ∙ highest-more (k - 1) f (ap f (sym p) ∙ (sym e ∙ q))))
-
-  pub down-all : {k : ℕ} → Down n f k → k ≤ 0 → 0 ≡ highest n f
-  down-all {k} h l = let e : k ≡ 0 = omega arith in sym (h .is ∙ rw e (highest-none f))
-
 module _ {A : Type 0} {d : A} {n : ℕ} {f : ℕ → A} where
   pub filled-none : {xs : List A} → length xs ≡ n → Filled d n f xs 0
   filled-none e = record { within = omega arith; size = e; is = λ k l. absurd (omega arith) }
@@ -111,16 +89,16 @@ any-highest n f = go (highest n f) refl
         any-hit n (highest n f) f (omega arith) (highest-le n f) (highest-passes n f (omega arith)) ∙ sym (lt-ltb 0 (highest n f) (omega arith))
 
 -- the seats of v
-pub of-vcpu : (h v : ℕ) → (ltb ((v - 1) * maxN) h && leb h ((v - 1) * maxN + maxN)) ≡ anyTo maxN (λ n. eqb h (seatOf v n))
+pub of-vcpu : (h v : ℕ) → (ltb ((v - 1) * maxN) h && leb h ((v - 1) * maxN + maxN)) ≡ anyTo maxN (λ n. eqb h (seat v n))
 of-vcpu h v = go (ltb ((v - 1) * maxN) h && leb h ((v - 1) * maxN + maxN)) refl
   where
-    go : (t : Bool) → (ltb ((v - 1) * maxN) h && leb h ((v - 1) * maxN + maxN)) ≡ t → t ≡ anyTo maxN (λ n. eqb h (seatOf v n))
+    go : (t : Bool) → (ltb ((v - 1) * maxN) h && leb h ((v - 1) * maxN + maxN)) ≡ t → t ≡ anyTo maxN (λ n. eqb h (seat v n))
     go true e =
         let a : (v - 1) * maxN < h = ltb-true ((v - 1) * maxN) h (both-left (ltb ((v - 1) * maxN) h) (leb h ((v - 1) * maxN + maxN)) e) in
         let b : h ≤ (v - 1) * maxN + maxN = leb-true h ((v - 1) * maxN + maxN) (both-right (ltb ((v - 1) * maxN) h) (leb h ((v - 1) * maxN + maxN)) e) in
-        sym (any-hit maxN (h - (v - 1) * maxN) (λ n. eqb h (seatOf v n)) (omega arith) (omega arith) (eq-eqb h (seatOf v (h - (v - 1) * maxN)) (omega arith)))
+        sym (any-hit maxN (h - (v - 1) * maxN) (λ n. eqb h (seat v n)) (omega arith) (omega arith) (eq-eqb h (seat v (h - (v - 1) * maxN)) (omega arith)))
     go false e =
-        sym (none-of maxN (λ n. eqb h (seatOf v n)) (λ k g l. ne-eqb h (seatOf v k) (λ q.
+        sym (none-of maxN (λ n. eqb h (seat v n)) (λ k g l. ne-eqb h (seat v k) (λ q.
         let a : ltb ((v - 1) * maxN) h ≡ true = lt-ltb ((v - 1) * maxN) h (omega arith) in
         let b : leb h ((v - 1) * maxN + maxN) ≡ true = le-leb h ((v - 1) * maxN + maxN) (omega arith) in
         let c = both (ltb ((v - 1) * maxN) h) (leb h ((v - 1) * maxN + maxN)) a b in

@@ -1,25 +1,20 @@
 // Walks over the mutexes and the tasks of a board, on its arrays and the view of a plan.
-use seats::at;
 use seats::both;
 use seats::either;
 use seats::no;
 use seats::pick;
 use seats::sub;
 ghost use mathlib.Core.Path.{_≡_};
-ghost use mathlib.Core.Bool.{Bool, true, false, _&&_, _||_, not};
-ghost use mathlib.Core.List.{List, []};
-ghost use lib.Dec.{eqb, ltb, leb};
-ghost use Prim.Native.Nat.{ℕ, _+_, _-_, _*_, _≤_, _<_};
-ghost use lib.ListN.{getD};
-ghost use Rattle.laws.specs.Choice.{if_then_else_};
-ghost use Rattle.laws.specs.Range.{anyTo, allTo, highest, listTo};
-ghost use Rattle.seats.specs.Seats.{seatOf, holdsIt, isGlobal, isLocal, localWaiter, budgetOf, overrunOf};
+ghost use lib.Dec.{eqb};
+ghost use Prim.Native.Nat.{_≤_};
+ghost use Rattle.laws.specs.Range.{anyTo, allTo, listTo};
+ghost use Rattle.seats.specs.Seats.{seat, budgetOf, overrunOf};
 ghost use Rattle.walks.specs.Walks.{globalBy, holdsGlobal, clears, passes, lastHeld, heldGlobal, heldLocal, localUnder, rowOf, rowsOf, columnOf, rowWith, holdGood, waitGood, taskGood, tasksGood, seatGood};
 
 // The seat h is one of v's.
 fn of_vcpu(h: u64, v: u64) -> bool
     requires { ⌜ v ≤ 16 ⌝ }
-    ensures { λ r. ⌜ r ≡ anyTo 8 (λ n. eqb h (seatOf v n)) ⌝ }
+    ensures { λ r. ⌜ r ≡ anyTo 8 (λ n. eqb h (seat v n)) ⌝ }
 {
     let base = sub(v, 1) * 8;
     both(base < h, h <= base + 8)

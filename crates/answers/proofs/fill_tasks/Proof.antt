@@ -23,12 +23,12 @@ fill-tasks-spec =
     (λ r vt mt ts tf ws fs rows₀ ta₀ n i₀ rows ta i. n - i)
     (λ c. (refl, filled-none))
     (λ c κs. let h = c .before .before .before .before .before .before .before .before .before .before .before .pre in (h .0, h .1, h .2, h .3, c .before .loop-test .taken, omega (arith, c .before .before .loop .inv .0, h .4)))
-    (λ c κs. let h = c .before .before .before .before .before .before .before .before .before .before .before .before .before .before .before .pre in omega (arith, c .before .before .before .before .before .before .loop .inv .1 .same, c .before .before .before .before .before .loop-test .taken, h .5, h .0 .tasks-few))
+    (λ c κs. let h = c .before .before .before .before .before .before .before .before .before .before .before .before .before .before .before .pre in omega (arith, c .before .before .before .before .before .before .loop .inv .1 .same, c .before .before .before .before .before .loop-test .taken, h .5))
     (λ c. search needs)
     (λ c. search needs)
     (λ c. let h = c .before .before .before .before .before .before .before .before .before .before .before .before .before .before .before .before .before .before .pre in let j = c .before .before .before .before .before .before .before .before .before .loop .inv in (
       c .before .before .before .before .before .before .task-answer .kept .1 .1 .1 .1 .1 .1 .1 .0 ∙ j .0,
-      filled-more _ (j .1) (c .before .before .before .before .before .before .before .before .loop-test .taken) (c .before .before .put-task .ensures) (ap taskAnswerRow (c .before .before .before .before .before .before .task-answer .ensures)) (omega (arith, h .5, h .0 .tasks-few)),
+      filled-more _ (j .1) (c .before .before .before .before .before .before .before .before .loop-test .taken) (c .before .before .put-task .ensures) (ap taskAnswerRow (c .before .before .before .before .before .before .task-answer .ensures)) (omega (arith, h .5)),
     ))
     (λ c. search needs)
     (λ c. search needs)

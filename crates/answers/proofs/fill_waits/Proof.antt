@@ -26,7 +26,7 @@ fill-waits-spec =
     (λ c. search needs)
     (λ c. let h = c .before .before .before .before .before .before .before .before .before .before .before .before .before .before .before .before .pre in let i = c .before .before .before .before .before .before .before .before .loop .inv in (
       c .before .before .before .before .put-wait .kept .1 .1 .1 .1 .1 .0 ∙ i .0,
-      filled-more _ (i .1) (c .before .before .before .before .before .before .before .loop-test .taken) (c .before .before .before .before .put-wait .ensures) refl (omega (arith, h .4, h .0 .tasks-few)),
+      filled-more _ (i .1) (c .before .before .before .before .before .before .before .loop-test .taken) (c .before .before .before .before .put-wait .ensures) refl (omega (arith, h .4)),
     ))
     (λ c. search needs)
     (λ c. search needs)

@@ -15,13 +15,13 @@ put-wait-spec =
     tie.close
     (tie.spec
     (λ c κs. search needs)
-    (λ c κs. let h = c .before .before .before .before .before .before .before .before .before .pre in omega (arith, h .3, h .5, h .0 .tasks-few))
+    (λ c κs. let h = c .before .before .before .before .before .before .before .before .before .pre in omega (arith, h .3, h .5))
     (λ c. search needs)
     (λ c. c .before .before .push-row .ensures ∙ ap (pushed _ _) (place-none _ _ _ _ (c .before .before .before .before .before .is-section .ensures) (not-true _ (c .before .before .before .before .if1 .taken))))
     (λ c κs. search needs)
     (λ c. search needs)
     (λ c. search needs)
-    (λ c κs. let h = c .before .before .before .before .before .before .before .before .before .before .before .pre in (omega (arith, h .3, h .5, h .0 .tasks-few, c .before .if2 .taken), omega (arith, h .3, h .5, h .0 .tasks-few)))
+    (λ c κs. let h = c .before .before .before .before .before .before .before .before .before .before .before .pre in (omega (arith, h .3, h .5, c .before .if2 .taken), omega (arith, h .3, h .5)))
     (λ c. search needs)
     (λ c. let h = c .before .before .before .before .before .before .before .before .before .before .before .before .before .before .pre in
     let e = c .before .before .before .before .before .same-before in
@@ -38,7 +38,7 @@ put-wait-spec =
       section-global _ _ _ _ (c .before .before .before .before .is-section .ensures) (not-false _ (c .before .before .before .if1 .left)),
       h .4,
     ))
-    (λ c κs. let h = c .before .before .before .before .before .before .before .before .before .before .before .before .before .before .before .pre in omega (arith, h .3, h .5, h .0 .tasks-few))
+    (λ c κs. let h = c .before .before .before .before .before .before .before .before .before .before .before .before .before .before .before .pre in omega (arith, h .3, h .5))
     (λ c. search needs)
     (λ c. search needs)
     (λ c.

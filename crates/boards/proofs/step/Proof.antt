@@ -12,7 +12,7 @@ returns : tie.Need-returns
 returns c = c .step-given .ensures ∙ sym (step-given _ _ (sym (c .before .before .is-given .ensures) ∙ c .before .if1 .taken) _ _)
 
 returns-2 : tie.Need-returns-2
-returns-2 c = c .refused .ensures ∙ sym (step-other _ _ (sym (c .before .before .is-given .ensures) ∙ c .before .if1 .left) _ _)
+returns-2 c = c .refuse .ensures ∙ sym (step-other _ _ (sym (c .before .before .is-given .ensures) ∙ c .before .if1 .left) _ _)
 
 pub step-spec : {M : Type 1} → statement M
 step-spec =

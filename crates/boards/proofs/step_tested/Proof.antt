@@ -1,15 +1,16 @@
 -- `step_tested` meets its contract: the test of the board first.
 use mathlib.Core.Path.{sym, _∙_}
-use Rattle.boards.specs.EnteredLaws.{tested-good, tested-other}
+use Rattle.boards.specs.EnteredLaws.{tested-other}
 use borrow.Author.Needs.{needs}
+use Rattle.keeps.specs.Runs.{step-on}
 use Rattle.boards.proofs.step_tested.Statement.{statement}
 use Rattle.boards.proofs.step_tested.Tie as tie
 
 returns : tie.Need-returns
-returns c = c .step-on .ensures ∙ sym (tested-good _ _ _ (sym (c .before .before .good2 .ensures) ∙ c .before .if1 .taken))
+returns c = c .step-on .ensures ∙ sym (step-on _ _ (sym (c .before .before .good2 .ensures) ∙ c .before .if1 .taken) _)
 
 returns-2 : tie.Need-returns-2
-returns-2 c = c .refused .ensures ∙ sym (tested-other _ _ _ (sym (c .before .before .good2 .ensures) ∙ c .before .if1 .left))
+returns-2 c = c .refuse .ensures ∙ sym (tested-other _ _ _ (sym (c .before .before .good2 .ensures) ∙ c .before .if1 .left))
 
 pub step-tested-spec : {M : Type 1} → statement M
 step-tested-spec =

@@ -1,14 +1,13 @@
 -- `exported` meets its contract.
 use Prim.Native.Nat.{ℕ, _<_, _^_}
 use mathlib.Core.Path.{_≡_, sym, ap, subst, _∙_}
-use lib.IntN.{pos}
 use mir.Syntax.{w64}
 use mir.Val.{toZ}
 use mir.Facts.{toZ-pos}
 use borrow.Author.Needs.{needs}
 use Rattle.writers.specs.Into.{bytesIn}
 use Rattle.writers.specs.declared.TextAnswer.{TextAnswer}
-use Rattle.writers.specs.declared.TextAnswer.the-variants.{Written, Refused}
+use Rattle.writers.specs.declared.TextAnswer.the-variants.{Written}
 use Rattle.codes.specs.Exported.{exported, negated-fits, read-back}
 use Rattle.codes.proofs.exported.Statement.{statement}
 use Rattle.codes.proofs.exported.Tie as tie

@@ -11,7 +11,7 @@ returns-2 : tie.Need-returns-2
 returns-2 c = let x = c .before .before in events-printed _ _ _ (x .before .before .if2 .taken) (x .refusal-text2 .ensures)
 
 returns-3 : tie.Need-returns-3
-returns-3 c = let x = c .before .before in board-printed _ _ _ (x .before .before .before .if1 .left) (x .before .before .if2 .left) (x .events-text .ensures)
+returns-3 c = let x = c .before .before in board-printed _ _ _ (x .before .before .before .if1 .left) (x .before .before .if2 .left) (x .text-of .ensures)
 
 pub board-text-spec : {M : Type 1} → statement M
 board-text-spec =

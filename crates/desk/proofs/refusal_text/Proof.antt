@@ -1,10 +1,6 @@
 -- `refusal_text` meets its contract.
-use Prim.Native.Nat.{_<_, _≤_}
-use mathlib.Core.Path.{_≡_}
 use native.Mathlib.Omega.{arith}
-use lib.ListN.{length}
 use borrow.Author.Needs.{needs}
-use Rattle.listing.specs.Listing.{refusedLine}
 use Rattle.writers.specs.IntoLaws.{into-room, into-none}
 use Rattle.desk.proofs.refusal_text.Statement.{statement}
 use Rattle.desk.proofs.refusal_text.Tie as tie

@@ -13,7 +13,7 @@ returns c =
 returns-2 : tie.Need-returns-2
 returns-2 c =
     let a = c .before .before .before .args in
-    on-unwritten (factsIn (a .policy) (a .choice) (a .view .now)) (a .b) (a .ok) (a .e) _ (c .refused .ensures) (c .before .if1 .left)
+    on-unwritten (factsIn (a .policy) (a .choice) (a .view .now)) (a .b) (a .ok) (a .e) _ (c .refuse .ensures) (c .before .if1 .left)
 
 pub on-event-spec : {M : Type 1} → statement M
 on-event-spec =

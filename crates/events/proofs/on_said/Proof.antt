@@ -13,7 +13,7 @@ returns c =
 returns-2 : tie.Need-returns-2
 returns-2 c =
     let a = c .before .before .before .before .args in
-    on-nothing (factsIn (a .policy) (a .choice) (a .view .now)) (a .b) (a .s .found) (a .s .a) (a .s .b) (a .s .c) (a .s .d) (a .s .e) _ (c .refused .ensures) (c .before .enum-told .given .1)
+    on-nothing (factsIn (a .policy) (a .choice) (a .view .now)) (a .b) (a .s .found) (a .s .a) (a .s .b) (a .s .c) (a .s .d) (a .s .e) _ (c .refuse .ensures) (c .before .enum-told .given .1)
 
 pub on-said-spec : {M : Type 1} → statement M
 on-said-spec =

@@ -7,7 +7,7 @@ returns : tie.Need-returns
 returns c = rw (c .before .before .t .given .1) (c .on-event .ensures)
 
 returns-2 : tie.Need-returns-2
-returns-2 c = rw (c .before .enum-told .given .1) (c .refused .ensures)
+returns-2 c = rw (c .before .enum-told .given .1) (c .refuse .ensures)
 
 pub on-told-spec : {M : Type 1} → statement M
 on-told-spec =

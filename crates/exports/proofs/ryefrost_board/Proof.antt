@@ -1,5 +1,4 @@
 -- `ryefrost_board` meets its contract.
-use Prim.Native.Nat.{_≤_, _<_}
 use mathlib.Core.Path.{ap, _∙_}
 use native.Mathlib.Nat.{le-refl, lt-of-le-of-lt}
 use lib.Dec.{lit<}

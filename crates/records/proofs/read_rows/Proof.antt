@@ -1,210 +1,33 @@
--- `records::read_rows` meets its contract: a walk of its MIR, by hand. A local table of records is lent as a `&mut [Task]` to `read_plan`, beside the input and the tables, taken back, and lent as a `&[Task]` to `load`, with the count that `count_of` gives. All that the proof knows of each callee is that it meets its contract.
--- Each table's borrow goes to its callee at its own lifetime, share and ghost name, and is given up for good (`gave-slice`). For each loan of the local a lifetime is made, and ended after the call.
--- Assumes nothing.
-use Rattle.records.proofs.Kit.{refl, sym, subst, _≡_, _∙_, ℕ, [], _∷_, List, length, URA, named, w64, Ty, imm, tyRef, mut, erased, Val, SProp, ent, emp, id⊢, exE, snd∗, GName, Lft, Share, ftrue, flft, fat, fsep, Fml, froom, flent, Memory, Routine, Heap, Calls, Loops, WpFn, Tables, Atoms, sem, Fun, fact, givenOf, tables, tablesOf, Given, ‵, _⊛_, ⋆, _$_, _∵_, !, qed, by, move, suffices, frame, done, split, join, rewrite, fsplit, fjoin, drop, feqI, raw, some, later, use0, use1, use2, pick, await, use3, feqL, look, init, forget, stop, fld, from, load, of-opd, assigns, returns, enter, alloc1, alloc0, params1, pass1, pass0, free1, free0, hop, lit, and-then, no-more, land, addr, whole, sub, look-in, agg, WpFn-mono, FmC, fmOf, owns, Is, shows, uint-lawful, usize, u64, u8, sliceVal, ShrSlice, Room, slice-vals, shr-slice-tells, MutSlice, mut-slice-tells, sliceTy, shr-slice-copy, finally, plain, owned, nothing, peeks, heard, Vals, onEntry, Meets, tripleOf, entered, cited, says, Stays, stay-none-slice, walkOf, goes-none-slice, Walks, ends-at, walked, walk-meets, needs, gave-slice, goes-gave-slice, yes, RefT, arith, fullShare, row, whole-in, whole-out, Held, lends-slice, slice-back, lends-shr-slice, lit<, pointee, shares, Contract, Triple, calls-at, ensured, lasts, lft-new, lft-end, lent-back, cells, Arr, arr-parts, Lfts, ap, min, uint-makes}
-use types.Run.{load as read}
-use denote.Memory.{mem as inMem}
-use denote.Enum.Laws as EL
-use Rattle.tables.specs.Layout.{over}
-use Rattle.reader.specs.declared.PlanAnswer.{PlanAnswer}
-use Rattle.reader.proofs.PlanAnswer as E
-use Rattle.reader.proofs.PlanAnswer.Laws as E′
-use Rattle.records.specs.Sheet.{Task, sheetRows, cutTo, noRows, countOf}
-use Rattle.records.specs.SheetLaws.{rows-long}
-use Rattle.records.specs.ReadLaws.{ReadOut}
-use Rattle.records.specs.Blank.{noTasks, none-many, ReadRows, rows-read}
-use Rattle.records.proofs.Lent.{val, ToWrite}
-use Rattle.records.proofs.LentTasks.{RT, table, tasks-room, no-tasks-room, table-typed, to-table, from-table}
-use Rattle.records.proofs.Counted.{Count, to-count, goes-count, count-said}
-use Rattle.records.proofs.Task as T
-use Rattle.records.proofs.no_tasks as none
-use Rattle.records.proofs.no_tasks.Symbol as none-def
-use Rattle.records.proofs.no_tasks.Symbol.{name as #records·no-tasks}
-use Rattle.records.proofs.no_tasks.Met as none-thm
-use Rattle.records.proofs.read_plan as reads
-use Rattle.records.proofs.read_plan.Symbol as reads-def
-use Rattle.records.proofs.read_plan.Symbol.{name as #records·read-plan}
-use Rattle.records.proofs.read_plan.Met as reads-thm
-use Rattle.records.proofs.count_of as count
-use Rattle.records.proofs.count_of.Symbol as count-def
-use Rattle.records.proofs.count_of.Symbol.{name as #records·count-of}
-use Rattle.records.proofs.count_of.Met as count-thm
-use Rattle.records.proofs.load as load
-use Rattle.records.proofs.load.Symbol as load-def
-use Rattle.records.proofs.load.Symbol.{name as #records·load}
-use Rattle.records.proofs.load.Met as load-thm
-use Rattle.records.proofs.read_rows.Key.{name as #records·read-rows}
-use Rattle.records.proofs.read_rows as f
-use Rattle.records.proofs.read_rows.Statement as stated
-use Rattle.records.proofs.read_rows.Code as code
+-- `records::read_rows` meets its contract.
+use mathlib.Core.Path.{ap, _∙_}
+use native.Mathlib.Omega.{arith}
+use borrow.Author.Needs.{needs}
+use Rattle.tables.specs.Layout.{Tables}
+use Rattle.reader.specs.Judged.{lent}
+use Rattle.reader.specs.Ample.{ample-answer}
+use Rattle.records.specs.Sheet.{countOf}
+use Rattle.records.specs.ReadLaws.{count-few}
+use Rattle.records.proofs.read_rows.Statement.{statement}
+use Rattle.records.proofs.read_rows.Tie as tie
 
-abbrev stayed : Stays (f.ended .signature .params) (f.ended .kept)
-stayed = (stay-none-slice (0 ∷ []) tt (plain (λ _. u8)) yes, (gave-slice (1 ∷ []) tt (plain (λ _. u64)), (gave-slice (2 ∷ []) tt (plain (λ _. u64)), (gave-slice (3 ∷ []) tt (plain (λ _. u64)), (gave-slice (4 ∷ []) tt (plain (λ _. u64)), tt)))))
+kept-requires : tie.Need-kept-requires
+kept-requires c κs =
+    let z = c .before .before .before .before .before .before .before .before .before .before .before .before .before .before .before .before .before .before .before .before in
+    let a = z .args in
+    let t : Tables = lent (a .vt .now) (a .mt .now) (a .ot .now) (a .rows .now) in
+    let n = c .before .count-of in
+    let r = c .before .before .before .before .before .before .before .before .before .before .read-lines in
+    let e = n .ensures ∙ ap countOf (r .ensures .0 ∙ ample-answer (a .src .now) t (z .pre)) in
+    (omega (arith, e, count-few (a .src .now) t), omega (arith, c .before .before .before .rows .given, z .pre .tasks))
 
-abbrev lent : Ty
-lent = sliceTy (tyRef erased mut (pointee (T.the-row .written)))
+returns : tie.Need-returns
+returns c =
+    let z = c .before .before .before .before .before .before .before .before .before .before .before .before .before .before .before .before .before .before .before .before .before .before .before in
+    let a = z .args in
+    let e = c .before .before .before .before .before .before .before .before .before .before .before .before .before .read-lines .ensures in (
+      e .0 ∙ ample-answer (a .src .now) (lent (a .vt .now) (a .mt .now) (a .ot .now) (a .rows .now)) (z .pre),
+      (e .1 .0, (e .1 .1 .0, (e .1 .1 .1 .0, c .before .before .kept .ensures ∙ e .1 .1 .1 .1))),
+    )
 
-abbrev shared : Ty
-shared = sliceTy (tyRef erased imm (pointee (T.the-row .written)))
-
--- the local at l lent under the name γ, with the list ys, and its machine value
-abbrev x : ℕ → GName → List Task → RefT (List Task)
-x l γ ys = record { ptr = (l, 0); name = γ; now = ys }
-
-abbrev s : ℕ → List Task → Val
-s l ys = sliceVal (l, 0) (length ys)
-
-abbrev Mut : Lft → ℕ → GName → Fml
-Mut α l γ = MutSlice (named 4) α T.the-row .own (x l γ noTasks) (s l noTasks ∷ [])
-
-abbrev Shr : Lft → ℕ → GName → List Task → Fml
-Shr α l γ ys = ShrSlice (named 0) α T.the-row .own (x l γ ys) (s l ys ∷ [])
-
-module _ {M : Type 1} (𝓤 : URA M) (H : Heap 𝓤) (A : Atoms 𝓤) (mem : Memory → SProp 𝓤) (run : Routine → Fun 𝓤) where
-  -- the contracts that the proof cites
-  abbrev None : Contract 𝓤
-  None = tripleOf 𝓤 H A none.signature (none.spec 𝓤 H A mem run)
-
-  abbrev Reads : Contract 𝓤
-  Reads = tripleOf 𝓤 H A reads.signature (reads.spec 𝓤 H A mem run)
-
-  abbrev Load : Contract 𝓤
-  Load = tripleOf 𝓤 H A load.signature (load.spec 𝓤 H A mem run)
-
-module _ {M : Type 1} (𝓤 : URA M) (H : Heap 𝓤) (A : Atoms 𝓤) (W : Given 𝓤 H A) (mem : Memory → SProp 𝓤) (run : Routine → Fun 𝓤) (κ₀ κ₁ κ₂ κ₃ κ₄ : Lft) (q₀ q₁ q₂ q₃ q₄ : Share) (src vt mt ot rows : RefT (List ℕ)) (src-room : Room u8 (length (src .now))) (vt-room : Room u64 (length (vt .now))) (mt-room : Room u64 (length (mt .now))) (ot-room : Room u64 (length (ot .now))) (rows-room : Room u64 (length (rows .now))) (zero : rows .now ≡ noRows) where
-  abbrev κs : Lfts 5
-  κs = (κ₀, (κ₁, (κ₂, (κ₃, (κ₄, tt)))))
-
-  abbrev Own-src : Fml
-  Own-src = ShrSlice (named 0) κ₀ u8 .own src (val src ∷ [])
-
-  abbrev at : Vals f.signature κs
-  at = (val src ∷ [], (val vt ∷ [], (val mt ∷ [], (val ot ∷ [], (val rows ∷ [], tt)))))
-
-  abbrev Post : Val → SProp 𝓤
-  Post = walkOf 𝓤 H A f.ended stayed (f.clauses 𝓤 H A mem run) .post ((κs, (q₀, (q₁, (q₂, (q₃, (q₄, tt))))), tt, (src, (vt, (mt, (ot, (rows, tt))))), at), tt)
-
-  exits : (a : PlanAnswer) (a-val : Val) → Is E.the-row a (a-val ∷ []) → (v m o ws : List ℕ) → ReadRows (src .now) (vt .now) (mt .now) (ot .now) a v m o ws → length v ≡ length (vt .now) → length m ≡ length (mt .now) → length o ≡ length (ot .now) → length ws ≡ length (rows .now)
-      → ent 𝓤 (⋆ 𝓤 H A (‵ (flft κ₀ q₀) ∷ ‵ (flft κ₁ q₁) ∷ ‵ (flft κ₂ q₂) ∷ ‵ (flft κ₃ q₃) ∷ ‵ (flft κ₄ q₄) ∷ ‵ Own-src ∷ ‵ (finally u64 (vt .name) v) ∷ ‵ (finally u64 (mt .name) m) ∷ ‵ (finally u64 (ot .name) o) ∷ ‵ (finally u64 (rows .name) ws) ∷ [])) (Post a-val)
-  exits a a-val is v m o ws e lv lm lo lw =
-      qed W (‵ (flft κ₀ q₀) ∷ ‵ (flft κ₁ q₁) ∷ ‵ (flft κ₂ q₂) ∷ ‵ (flft κ₃ q₃) ∷ ‵ (flft κ₄ q₄) ∷ ‵ Own-src ∷ ‵ (finally u64 (vt .name) v) ∷ ‵ (finally u64 (mt .name) m) ∷ ‵ (finally u64 (ot .name) o) ∷ ‵ (finally u64 (rows .name) ws) ∷ []) ∵
-      suffices ! _ (ends-at 𝓤 H A f.ended stayed (f.clauses 𝓤 H A mem run) W ((κs, (q₀, (q₁, (q₂, (q₃, (q₄, tt))))), tt, (src, (vt, (mt, (ot, (rows, tt))))), at), tt) a-val a (tt, (v, (m, (o, (ws, tt))))) (tt, (lv, (lm, (lo, (lw, tt)))))) $ says ! e $
-      nothing ! $ move ! (5 ∷ 0 ∷ []) $ join ! $ move ! (4 ∷ 0 ∷ []) $ join ! $ move ! (3 ∷ 0 ∷ []) $ join ! $ move ! (2 ∷ 0 ∷ []) $ join ! $ move ! (1 ∷ 0 ∷ []) $ join ! $ frame ! $
-      nothing ! $ move ! (5 ∷ 0 ∷ []) $ fjoin ! $ move ! (4 ∷ 0 ∷ []) $ fjoin ! $ move ! (3 ∷ 0 ∷ []) $ fjoin ! $ move ! (2 ∷ 0 ∷ []) $ fjoin ! $ move ! (1 ∷ 0 ∷ []) $ fjoin ! $ frame ! $ owned ! E.the-row (Is E.the-row) (EL.makes E.the-type E′.the-plain 𝓤 H A) a _ is $ done !
-
-  -- the calls: what each is passed, what it asks, and what is known of its result
-  abbrev to-none : None 𝓤 H A mem run .Ghost
-  to-none = ((tt, tt, tt, tt, tt), tt)
-
-  goes-no-tasks : ent 𝓤 (emp 𝓤) (None 𝓤 H A mem run .pre to-none)
-  goes-no-tasks = qed W [] ∵ nothing ! $ nothing ! $ join ! $ frame ! $ done !
-
-  none-said : (a : List Task) → ent 𝓤 (ensured 𝓤 H A none.ended (none.clauses 𝓤 H A mem run) tt tt tt a) (fact 𝓤 (a ≡ noTasks))
-  none-said a = exE 𝓤 _ (λ ws. snd∗ 𝓤 (sem 𝓤 H A (lasts none.ended tt tt ws)) (fact 𝓤 (a ≡ noTasks)))
-
-  -- the loans, at a lifetime α that the walk makes: the local at l under the name γ
-  module _ (α : Lft) (l : ℕ) (γ : GName) where
-    abbrev to-reads : Reads 𝓤 H A mem run .Ghost
-    to-reads = (((κ₀, (κ₁, (κ₂, (κ₃, (α, tt))))), (q₀, (q₁, (q₂, (q₃, (fullShare, tt))))), tt, (src, (vt, (mt, (ot, (x l γ noTasks, tt))))), (val src ∷ [], (val vt ∷ [], (val mt ∷ [], (val ot ∷ [], (s l noTasks ∷ [], tt)))))), tt)
-
-    goes-reads : ent 𝓤 (⋆ 𝓤 H A ((‵ (flft κ₀ q₀) ⊛ ‵ (flft κ₁ q₁) ⊛ ‵ (flft κ₂ q₂) ⊛ ‵ (flft κ₃ q₃) ⊛ ‵ (flft α fullShare) ⊛ ‵ ftrue) ∷ ‵ (fsep Own-src (fsep (ToWrite 1 κ₁ vt) (fsep (ToWrite 2 κ₂ mt) (fsep (ToWrite 3 κ₃ ot) (fsep (Mut α l γ) ftrue))))) ∷ [])) (Reads 𝓤 H A mem run .pre to-reads)
-    goes-reads = qed W ((‵ (flft κ₀ q₀) ⊛ ‵ (flft κ₁ q₁) ⊛ ‵ (flft κ₂ q₂) ⊛ ‵ (flft κ₃ q₃) ⊛ ‵ (flft α fullShare) ⊛ ‵ ftrue) ∷ ‵ (fsep Own-src (fsep (ToWrite 1 κ₁ vt) (fsep (ToWrite 2 κ₂ mt) (fsep (ToWrite 3 κ₃ ot) (fsep (Mut α l γ) ftrue))))) ∷ []) ∵ join ! $ frame ! $ done !
-
-    module _ (ys : List Task) (n : ℕ) (n-val : Val) where
-      abbrev to-load : Load 𝓤 H A mem run .Ghost
-      to-load = (((α, (κ₄, tt)), (fullShare, (q₄, tt)), tt, (x l γ ys, (rows, (n, tt))), (s l ys ∷ [], (val rows ∷ [], (n-val ∷ [], tt)))), tt)
-
-      goes-load : ent 𝓤 (⋆ 𝓤 H A ((‵ (flft α fullShare) ⊛ ‵ (flft κ₄ q₄) ⊛ ‵ ftrue) ∷ ‵ (fsep (Shr α l γ ys) (fsep (ToWrite 4 κ₄ rows) (fsep (usize .own n (n-val ∷ [])) ftrue))) ∷ [])) (Load 𝓤 H A mem run .pre to-load)
-      goes-load = qed W ((‵ (flft α fullShare) ⊛ ‵ (flft κ₄ q₄) ⊛ ‵ ftrue) ∷ ‵ (fsep (Shr α l γ ys) (fsep (ToWrite 4 κ₄ rows) (fsep (usize .own n (n-val ∷ [])) ftrue))) ∷ []) ∵ says ! (let k : length (rows .now) ≡ 1856 = ap length zero ∙ rows-long in omega arith) $ frame ! $ done !
-
-  module _ (C : Calls 𝓤 H) (Λ : Loops 𝓤 H) (fm : FmC 𝓤 H (W .laws) C) (k-none : Triple 𝓤 (C #records·no-tasks) (None 𝓤 H A mem run)) (k-reads : Triple 𝓤 (C #records·read-plan) (Reads 𝓤 H A mem run)) (k-count : Triple 𝓤 (C #records·count-of) (Count 𝓤 H A mem run)) (k-load : Triple 𝓤 (C #records·load) (Load 𝓤 H A mem run)) where
-    walk : ent 𝓤 (onEntry 𝓤 H A f.signature κs (q₀, (q₁, (q₂, (q₃, (q₄, tt))))) (src, (vt, (mt, (ot, (rows, tt))))) at) (WpFn 𝓤 H C Λ code.function (val src ∷ val vt ∷ val mt ∷ val ot ∷ val rows ∷ []) Post)
-    walk =
-        qed W ((‵ (flft κ₀ q₀) ⊛ ‵ (flft κ₁ q₁) ⊛ ‵ (flft κ₂ q₂) ⊛ ‵ (flft κ₃ q₃) ⊛ ‵ (flft κ₄ q₄) ⊛ ‵ ftrue) ∷ ‵ (owns (ShrSlice (named 0) κ₀ u8 ∷ MutSlice (named 1) κ₁ u64 ∷ MutSlice (named 2) κ₂ u64 ∷ MutSlice (named 3) κ₃ u64 ∷ MutSlice (named 4) κ₄ u64 ∷ []) (src, (vt, (mt, (ot, (rows, tt))))) at) ∷ []) ∵ enter ! C Λ code.function (val src ∷ val vt ∷ val mt ∷ val ot ∷ val rows ∷ []) _ $
-        alloc1 ! (λ l₀. alloc1 ! (λ l₁. alloc1 ! (λ l₂. alloc1 ! (λ l₃. alloc1 ! (λ l₄. alloc1 ! (λ l₅. alloc1 ! (λ l₆. alloc1 ! (λ l₇. alloc1 ! (λ l₈. alloc1 ! (λ l₉. alloc1 ! (λ l₁₀. alloc1 ! (λ l₁₁. alloc1 ! (λ l₁₂. alloc1 ! (λ l₁₃. alloc1 ! (λ l₁₄. alloc1 ! (λ l₁₅. alloc1 ! (λ l₁₆. alloc1 ! (λ l₁₇. alloc1 ! (λ l₁₈. alloc1 ! (λ l₁₉. alloc1 ! (λ l₂₀. alloc1 ! (λ l₂₁. alloc1 ! (λ l₂₂. alloc0 ! $ params1 ! $
-        pass1 ! (init ! 42 refl (tt, (tt, (record { fits = src-room .0 }, tt)))) $ pass1 ! (init ! 40 refl (tt, (tt, (record { fits = vt-room .0 }, tt)))) $ pass1 ! (init ! 38 refl (tt, (tt, (record { fits = mt-room .0 }, tt)))) $ pass1 ! (init ! 36 refl (tt, (tt, (record { fits = ot-room .0 }, tt)))) $ pass1 ! (init ! 34 refl (tt, (tt, (record { fits = rows-room .0 }, tt)))) $ pass0 ! $
-        -- the tokens and what the parameters own, apart
-        move ! (46 ∷ []) $ split ! $ move ! (1 ∷ []) $ split ! $ move ! (1 ∷ []) $ split ! $ move ! (1 ∷ []) $ split ! $ move ! (1 ∷ []) $ split ! $ move ! (1 ∷ []) $ drop ! $ move ! (51 ∷ []) $ fsplit ! $ move ! (1 ∷ []) $ fsplit ! $ move ! (1 ∷ []) $ fsplit ! $ move ! (1 ∷ []) $ fsplit ! $ move ! (1 ∷ []) $ fsplit ! $ move ! (1 ∷ []) $ drop ! $
-        move ! (4 ∷ []) $ use1 W (‵ Own-src ⊛ ‵ Own-src) (shr-slice-copy 𝓤 H A W (named 0) κ₀ u8 .twice src (val src ∷ [])) $ split ! $
-        -- `no_tasks`, into the local that is lent
-        use0 W (raw (None 𝓤 H A mem run .pre to-none)) goes-no-tasks $ calls-at ! fm (None 𝓤 H A mem run) k-none to-none (no-more !) (λ w₀.
-        use1 W (later (some (λ (ys : List Task). (‵ ftrue ⊛ ‵ (RT .own ys (w₀ ∷ []))) ⊛ raw (ensured 𝓤 H A none.ended (none.clauses 𝓤 H A mem run) tt tt tt ys)))) (id⊢ 𝓤 _) $ await ! tt $ pick ! (λ ys. split ! $ move ! (1 ∷ []) $ use1 W (raw (fact 𝓤 (ys ≡ noTasks))) (none-said ys) $ heard ! (ys ≡ noTasks) (λ e₀. split ! $ drop ! $
-        rewrite ! 0 (λ (y : List Task). ‵ (RT .own y (w₀ ∷ []))) e₀ refl $ peeks ! RT (Is RT) (shows 𝓤 H A RT) noTasks (w₀ ∷ []) (λ is₀.
-        land ! (from ! (stop !)) (init ! 38 refl (table-typed 𝓤 H A W noTasks w₀ is₀)) $
-        assigns ! (of-opd ! (read ! (from ! (stop !)) (look ! 38 refl))) (from ! (stop !)) (init ! 44 refl (table-typed 𝓤 H A W noTasks w₀ is₀)) $
-        assigns ! (addr ! (from ! (fld ! refl (hop ! (look-in ! 52 (sub ! 0 refl (whole !))) (stop !))))) (from ! (stop !)) (init ! 36 refl (tt, tt)) $
-        assigns ! (agg ! (and-then ! (read ! (from ! (stop !)) (look ! 36 refl)) (and-then ! (read ! (from ! (fld ! refl (stop !))) (look-in ! 52 (sub ! 1 refl (whole !)))) (no-more !)))) (from ! (stop !)) (init ! 34 refl (tt, (tt, (record { fits = vt-room .0 }, tt)))) $
-        assigns ! (addr ! (from ! (fld ! refl (hop ! (look-in ! 50 (sub ! 0 refl (whole !))) (stop !))))) (from ! (stop !)) (init ! 32 refl (tt, tt)) $
-        assigns ! (agg ! (and-then ! (read ! (from ! (stop !)) (look ! 32 refl)) (and-then ! (read ! (from ! (fld ! refl (stop !))) (look-in ! 50 (sub ! 1 refl (whole !)))) (no-more !)))) (from ! (stop !)) (init ! 30 refl (tt, (tt, (record { fits = mt-room .0 }, tt)))) $
-        assigns ! (addr ! (from ! (fld ! refl (hop ! (look-in ! 48 (sub ! 0 refl (whole !))) (stop !))))) (from ! (stop !)) (init ! 28 refl (tt, tt)) $
-        assigns ! (agg ! (and-then ! (read ! (from ! (stop !)) (look ! 28 refl)) (and-then ! (read ! (from ! (fld ! refl (stop !))) (look-in ! 48 (sub ! 1 refl (whole !)))) (no-more !)))) (from ! (stop !)) (init ! 26 refl (tt, (tt, (record { fits = ot-room .0 }, tt)))) $
-        assigns ! (addr ! (from ! (stop !))) (from ! (stop !)) (init ! 24 refl (tt, tt)) $
-        assigns ! (agg ! (and-then ! (read ! (from ! (stop !)) (look ! 24 refl)) (and-then ! (lit ! tt) (no-more !)))) (from ! (stop !)) (init ! 22 refl (tt, (tt, (record { fits = lit< tt }, tt)))) $
-        rewrite ! 22 (λ (m : ℕ). ‵ (fat fullShare lent l₁₇ 0 (sliceVal (l₆, 0) m))) (sym none-many) refl $
-        -- the local is lent as a `&mut [Task]`, for a lifetime that is made here
-        move ! (44 ∷ 0 ∷ []) $ use2 W (‵ (arr-parts (shares T.the-row) 64 .part fullShare noTasks l₆ 0)) (to-table 𝓤 H A W noTasks l₆ w₀) $ fsplit ! $ drop ! $ use1 W (‵ (cells (inMem T.the-row) noTasks l₆ 0)) (whole-in 𝓤 H A W T.the-row noTasks l₆ 0) $
-        lft-new ! tt (λ α. move ! (1 ∷ []) $
-        use1 W (later (some (λ (γ : GName). ‵ (Mut (α ∷ []) l₆ γ) ⊛ ‵ (flent (α ∷ []) (Held T.the-row (length noTasks) l₆ 0 γ))))) (lends-slice 𝓤 H A W T.the-row (named 4) (α ∷ []) noTasks l₆ 0 no-tasks-room) $ await ! tt $ pick ! (λ γ. split ! $
-        nothing ! $ move ! (3 ∷ 0 ∷ []) $ join ! $ move ! (10 ∷ 0 ∷ []) $ join ! $ move ! (10 ∷ 0 ∷ []) $ join ! $ move ! (10 ∷ 0 ∷ []) $ join ! $ move ! (10 ∷ 0 ∷ []) $ join ! $ nothing ! $ move ! (2 ∷ 0 ∷ []) $ fjoin ! $ move ! (6 ∷ 0 ∷ []) $ fjoin ! $ move ! (6 ∷ 0 ∷ []) $ fjoin ! $ move ! (6 ∷ 0 ∷ []) $ fjoin ! $ move ! (4 ∷ 0 ∷ []) $ fjoin ! $
-        move ! (1 ∷ 0 ∷ []) $ use2 W (raw (Reads 𝓤 H A mem run .pre (to-reads (α ∷ []) l₆ γ))) (goes-reads (α ∷ []) l₆ γ) $
-        calls-at ! fm (Reads 𝓤 H A mem run) k-reads (to-reads (α ∷ []) l₆ γ) (and-then ! (read ! (from ! (stop !)) (look ! 46 refl)) (and-then ! (read ! (from ! (stop !)) (look ! 27 refl)) (and-then ! (read ! (from ! (stop !)) (look ! 23 refl)) (and-then ! (read ! (from ! (stop !)) (look ! 19 refl)) (and-then ! (read ! (from ! (stop !)) (look ! 15 refl)) (no-more !)))))) (λ w₁.
-        use1 W (later (some (λ (a : PlanAnswer). ((‵ (flft κ₀ q₀) ⊛ ‵ (flft κ₁ q₁) ⊛ ‵ (flft κ₂ q₂) ⊛ ‵ (flft κ₃ q₃) ⊛ ‵ (flft (α ∷ []) fullShare) ⊛ ‵ ftrue) ⊛ ‵ (E.the-row .own a (w₁ ∷ []))) ⊛ raw (ensured 𝓤 H A reads.ended (reads.clauses 𝓤 H A mem run) (κ₀, (κ₁, (κ₂, (κ₃, (α ∷ [], tt))))) (src, (vt, (mt, (ot, (x l₆ γ noTasks, tt))))) tt a)))) (id⊢ 𝓤 _) $ await ! tt $ pick ! (λ a.
-        split ! $ move ! (1 ∷ []) $ use1 W (some (λ (zs : Unit {0} × (List ℕ × (List ℕ × (List ℕ × (List Task × Unit {0}))))). ‵ (lasts reads.ended (κ₀, (κ₁, (κ₂, (κ₃, (α ∷ [], tt))))) (src, (vt, (mt, (ot, (x l₆ γ noTasks, tt))))) zs) ⊛ raw (fact 𝓤 (ReadOut (src .now) (vt .now) (mt .now) (ot .now) noTasks a (zs .1 .0) (zs .1 .1 .0) (zs .1 .1 .1 .0) (zs .1 .1 .1 .1 .0))))) (id⊢ 𝓤 _) $ pick ! (λ zs.
-        split ! $ move ! (1 ∷ []) $ heard ! (ReadOut (src .now) (vt .now) (mt .now) (ot .now) noTasks a (zs .1 .0) (zs .1 .1 .0) (zs .1 .1 .1 .0) (zs .1 .1 .1 .1 .0)) (λ e₁.
-        fsplit ! $ drop ! $ fsplit ! $ fsplit ! $ move ! (1 ∷ []) $ feqL ! (λ lv. move ! (1 ∷ []) $ fsplit ! $ fsplit ! $ move ! (1 ∷ []) $ feqL ! (λ lm. move ! (1 ∷ []) $ fsplit ! $ fsplit ! $ move ! (1 ∷ []) $ feqL ! (λ lo. move ! (1 ∷ []) $ fsplit ! $ fsplit ! $ move ! (1 ∷ []) $ feqL ! (λ lt. move ! (1 ∷ []) $ drop ! $
-        move ! (4 ∷ []) $ split ! $ move ! (1 ∷ []) $ peeks ! E.the-row (Is E.the-row) (shows 𝓤 H A E.the-row) a (w₁ ∷ []) (λ is₁. drop ! $
-        land ! (from ! (stop !)) (init ! 39 refl (EL.lawful E.the-type E′.the-laws 𝓤 H A W tt .typed a _ is₁ .0)) $
-        -- the lifetime is ended, and the local is taken back
-        split ! $ move ! (1 ∷ []) $ split ! $ move ! (1 ∷ []) $ split ! $ move ! (1 ∷ []) $ split ! $ move ! (1 ∷ []) $ split ! $ move ! (1 ∷ []) $ drop ! $ lft-end ! tt $ move ! (0 ∷ 9 ∷ 5 ∷ []) $ use3 W (later (‵ (Arr (inMem T.the-row) (length noTasks) .lies (zs .1 .1 .1 .1 .0) l₆ 0))) (slice-back 𝓤 H A W T.the-row (α ∷ []) γ (zs .1 .1 .1 .1 .0) (length noTasks) l₆ 0) $ await ! tt $
-        fsplit ! $ drop ! $ use1 W (‵ (row T.the-row fullShare (zs .1 .1 .1 .1 .0) l₆ 0)) (whole-out 𝓤 H A W T.the-row (zs .1 .1 .1 .1 .0) l₆ 0) $
-        feqI ! ℕ (length (zs .1 .1 .1 .1 .0)) (length (zs .1 .1 .1 .1 .0)) refl $ fjoin ! $
-        -- `count_of`
-        use0 W (raw (Count 𝓤 H A mem run .pre (to-count 𝓤 H A mem run a w₁))) (goes-count 𝓤 H A mem run W a w₁ is₁) $ calls-at ! fm (Count 𝓤 H A mem run) k-count (to-count 𝓤 H A mem run a w₁) (and-then ! (read ! (from ! (stop !)) (look ! 42 refl)) (no-more !)) (λ w₂.
-        use1 W (later (some (λ (n : ℕ). (‵ ftrue ⊛ ‵ (usize .own n (w₂ ∷ []))) ⊛ raw (ensured 𝓤 H A count.ended (count.clauses 𝓤 H A mem run) tt (a, tt) tt n)))) (id⊢ 𝓤 _) $ await ! tt $ pick ! (λ n. split ! $ move ! (1 ∷ []) $ use1 W (raw (fact 𝓤 (n ≡ countOf a))) (count-said 𝓤 H A mem run a n) $ heard ! (n ≡ countOf a) (λ e₂. split ! $ drop ! $ peeks ! usize (Is usize) (shows 𝓤 H A usize) n (w₂ ∷ []) (λ is₂. drop ! $
-        land ! (from ! (stop !)) (init ! 39 refl (uint-lawful 𝓤 H A W w64 .typed n _ is₂ .0)) $
-        -- the local is lent as a `&[Task]`, and `load` writes its numbers
-        assigns ! (addr ! (from ! (stop !))) (from ! (stop !)) (init ! 17 refl (tt, tt)) $
-        assigns ! (agg ! (and-then ! (read ! (from ! (stop !)) (look ! 17 refl)) (and-then ! (lit ! tt) (no-more !)))) (from ! (stop !)) (init ! 15 refl (tt, (tt, (record { fits = lit< tt }, tt)))) $
-        rewrite ! 15 (λ (m : ℕ). ‵ (fat fullShare shared l₂₀ 0 (sliceVal (l₆, 0) m))) (sym (lt ∙ none-many)) refl $
-        assigns ! (addr ! (from ! (fld ! refl (hop ! (look-in ! 44 (sub ! 0 refl (whole !))) (stop !))))) (from ! (stop !)) (init ! 13 refl (tt, tt)) $
-        assigns ! (agg ! (and-then ! (read ! (from ! (stop !)) (look ! 13 refl)) (and-then ! (read ! (from ! (fld ! refl (stop !))) (look-in ! 44 (sub ! 1 refl (whole !)))) (no-more !)))) (from ! (stop !)) (init ! 11 refl (tt, (tt, (record { fits = rows-room .0 }, tt)))) $
-        lft-new ! tt (λ β. move ! (1 ∷ []) $
-        use1 W (later (some (λ (δ : GName). ‵ (Shr (β ∷ []) l₆ δ (zs .1 .1 .1 .1 .0)) ⊛ ‵ (flent (β ∷ []) (arr-parts (shares T.the-row) (length (zs .1 .1 .1 .1 .0)) .part fullShare (zs .1 .1 .1 .1 .0) l₆ 0))))) (lends-shr-slice 𝓤 H A W T.the-row (named 0) (β ∷ []) fullShare (zs .1 .1 .1 .1 .0) l₆ 0 (subst (Room T.the-row) (sym (lt ∙ none-many)) tasks-room)) $ await ! tt $ pick ! (λ δ. split ! $
-        nothing ! $ move ! (13 ∷ 0 ∷ []) $ join ! $ move ! (3 ∷ 0 ∷ []) $ join ! $ nothing ! $ owned ! usize (Is usize) (uint-makes 𝓤 H A W w64) n _ is₂ $ fjoin ! $ move ! (12 ∷ 0 ∷ []) $ fjoin ! $ move ! (2 ∷ 0 ∷ []) $ fjoin ! $
-        move ! (1 ∷ 0 ∷ []) $ use2 W (raw (Load 𝓤 H A mem run .pre (to-load (β ∷ []) l₆ δ (zs .1 .1 .1 .1 .0) n w₂))) (goes-load (β ∷ []) l₆ δ (zs .1 .1 .1 .1 .0) n w₂) $
-        calls-at ! fm (Load 𝓤 H A mem run) k-load (to-load (β ∷ []) l₆ δ (zs .1 .1 .1 .1 .0) n w₂) (and-then ! (read ! (from ! (stop !)) (look ! 14 refl)) (and-then ! (read ! (from ! (stop !)) (look ! 10 refl)) (and-then ! (read ! (from ! (stop !)) (look ! 38 refl)) (no-more !)))) (λ w₃.
-        use1 W (later (some (λ (c : ℕ). ((‵ (flft (β ∷ []) fullShare) ⊛ ‵ (flft κ₄ q₄) ⊛ ‵ ftrue) ⊛ ‵ (usize .own c (w₃ ∷ []))) ⊛ raw (ensured 𝓤 H A load.ended (load.clauses 𝓤 H A mem run) (β ∷ [], (κ₄, tt)) (x l₆ δ (zs .1 .1 .1 .1 .0), (rows, (n, tt))) tt c)))) (id⊢ 𝓤 _) $ await ! tt $ pick ! (λ c.
-        split ! $ move ! (1 ∷ []) $ use1 W (some (λ (us : Unit {0} × (List ℕ × (Unit {0} × Unit {0}))). ‵ (lasts load.ended (β ∷ [], (κ₄, tt)) (x l₆ δ (zs .1 .1 .1 .1 .0), (rows, (n, tt))) us) ⊛ raw (fact 𝓤 ((c ≡ length (sheetRows (cutTo (min n 64) (zs .1 .1 .1 .1 .0)))) × (us .1 .0 ≡ over (sheetRows (cutTo (min n 64) (zs .1 .1 .1 .1 .0))) (rows .now)))))) (id⊢ 𝓤 _) $ pick ! (λ us.
-        split ! $ move ! (1 ∷ []) $ heard ! ((c ≡ length (sheetRows (cutTo (min n 64) (zs .1 .1 .1 .1 .0)))) × (us .1 .0 ≡ over (sheetRows (cutTo (min n 64) (zs .1 .1 .1 .1 .0))) (rows .now))) (λ e₃. fsplit ! $ drop ! $ fsplit ! $ fsplit ! $ move ! (1 ∷ []) $ feqL ! (λ lw. move ! (1 ∷ []) $ drop ! $
-        move ! (1 ∷ []) $ split ! $ move ! (1 ∷ []) $ peeks ! usize (Is usize) (shows 𝓤 H A usize) c (w₃ ∷ []) (λ is₃. drop ! $
-        land ! (from ! (stop !)) (init ! 19 refl (uint-lawful 𝓤 H A W w64 .typed c _ is₃ .0)) $
-        -- the lifetime is ended, and the local is room again
-        split ! $ move ! (1 ∷ []) $ split ! $ move ! (1 ∷ []) $ drop ! $ move ! (1 ∷ []) $ lft-end ! tt $ move ! (0 ∷ 3 ∷ []) $ lent-back ! tt $ fsplit ! $ drop ! $ feqI ! ℕ (length (zs .1 .1 .1 .1 .0)) 64 (lt ∙ none-many) $ fjoin ! $ use1 W (‵ (froom table l₆ 0)) (from-table 𝓤 H A W (zs .1 .1 .1 .1 .0) l₆) $
-        assigns ! (of-opd ! (read ! (from ! (stop !)) (look ! 41 refl))) (from ! (stop !)) (init ! 54 refl (EL.lawful E.the-type E′.the-laws 𝓤 H A W tt .typed a _ is₁ .0)) $
-        returns ! (look ! 54 refl) $ forget ! 11 refl $ forget ! 13 refl $ forget ! 15 refl $ forget ! 17 refl $ forget ! 19 refl $ forget ! 21 refl $ forget ! 23 refl $ forget ! 25 refl $ forget ! 27 refl $ forget ! 29 refl $ forget ! 31 refl $ forget ! 33 refl $ forget ! 35 refl $ forget ! 37 refl $ forget ! 39 refl $ forget ! 41 refl $ forget ! 44 refl $ forget ! 46 refl $ forget ! 48 refl $ forget ! 50 refl $ forget ! 52 refl $ forget ! 54 refl $
-        move ! (54 ∷ 55 ∷ []) $ free1 ! $ move ! (52 ∷ 53 ∷ []) $ free1 ! $ move ! (50 ∷ 51 ∷ []) $ free1 ! $ move ! (48 ∷ 49 ∷ []) $ free1 ! $ move ! (46 ∷ 47 ∷ []) $ free1 ! $ move ! (44 ∷ 45 ∷ []) $ free1 ! $ move ! (0 ∷ 43 ∷ []) $ free1 ! $ move ! (40 ∷ 41 ∷ []) $ free1 ! $ move ! (38 ∷ 39 ∷ []) $ free1 ! $ move ! (36 ∷ 37 ∷ []) $ free1 ! $ move ! (34 ∷ 35 ∷ []) $ free1 ! $ move ! (32 ∷ 33 ∷ []) $ free1 ! $ move ! (30 ∷ 31 ∷ []) $ free1 ! $ move ! (28 ∷ 29 ∷ []) $ free1 ! $ move ! (26 ∷ 27 ∷ []) $ free1 ! $ move ! (24 ∷ 25 ∷ []) $ free1 ! $ move ! (22 ∷ 23 ∷ []) $ free1 ! $ move ! (20 ∷ 21 ∷ []) $ free1 ! $ move ! (18 ∷ 19 ∷ []) $ free1 ! $ move ! (16 ∷ 17 ∷ []) $ free1 ! $ move ! (14 ∷ 15 ∷ []) $ free1 ! $ move ! (12 ∷ 13 ∷ []) $ free1 ! $ move ! (10 ∷ 11 ∷ []) $ free1 ! $ free0 ! $
-        move ! (5 ∷ 4 ∷ 3 ∷ 2 ∷ 0 ∷ 9 ∷ 8 ∷ 7 ∷ 6 ∷ 1 ∷ []) $ by ! (exits a w₁ is₁ (zs .1 .0) (zs .1 .1 .0) (zs .1 .1 .1 .0) (us .1 .0) (rows-read (src .now) (vt .now) (mt .now) (ot .now) (rows .now) zero a (zs .1 .0) (zs .1 .1 .0) (zs .1 .1 .1 .0) (zs .1 .1 .1 .1 .0) e₁ n e₂ (us .1 .0) (e₃ .1)) lv lm lo lw)))))))))))))))))))))))))))))))))))))))))))))))))))
-
-module _ {M : Type 1} (𝓤 : URA M) (H : Heap 𝓤) (A : Atoms 𝓤) (W : Given 𝓤 H A) (mem : Memory → SProp 𝓤) (run : Routine → Fun 𝓤) where
-  read-rows-walks : (C : Calls 𝓤 H) (Λ : Loops 𝓤 H) → FmC 𝓤 H (W .laws) C → Triple 𝓤 (C #records·no-tasks) (None 𝓤 H A mem run) → Triple 𝓤 (C #records·read-plan) (Reads 𝓤 H A mem run) → Triple 𝓤 (C #records·count-of) (Count 𝓤 H A mem run) → Triple 𝓤 (C #records·load) (Load 𝓤 H A mem run)
-      → Walks 𝓤 H A f.ended stayed (WpFn 𝓤 H C Λ code.function) (f.clauses 𝓤 H A mem run)
-  read-rows-walks C Λ fm kn kr kc kl =
-      walked 𝓤 H A f.ended stayed (f.clauses 𝓤 H A mem run) (WpFn 𝓤 H C Λ code.function) (λ κs. (slice-vals, (slice-vals, (slice-vals, (slice-vals, (slice-vals, tt)))))) (λ κs. (shr-slice-tells (named 0) (κs .0) u8, (mut-slice-tells (named 1) (κs .1 .0) u64, (mut-slice-tells (named 2) (κs .1 .1 .0) u64, (mut-slice-tells (named 3) (κs .1 .1 .1 .0) u64, (mut-slice-tells (named 4) (κs .1 .1 .1 .1 .0) u64, tt))))))
-      (λ κs qs bounds a _ are. needs 𝓤 _ _ (λ zero. walk 𝓤 H A W mem run (κs .0) (κs .1 .0) (κs .1 .1 .0) (κs .1 .1 .1 .0) (κs .1 .1 .1 .1 .0) (qs .0) (qs .1 .0) (qs .1 .1 .0) (qs .1 .1 .1 .0) (qs .1 .1 .1 .1 .0) (a .0) (a .1 .0) (a .1 .1 .0) (a .1 .1 .1 .0) (a .1 .1 .1 .1 .0) (are .0 .0 .1) (are .1 .0 .0 .1) (are .1 .1 .0 .0 .1) (are .1 .1 .1 .0 .0 .1) (are .1 .1 .1 .1 .0 .0 .1) zero C Λ fm kn kr kc kl))
-
-read-rows-meets : {M : Type 1} (𝓤 : URA M) (H : Heap 𝓤) (A : Atoms 𝓤) (W : Given 𝓤 H A) (mem : Memory → SProp 𝓤) (run : Routine → Fun 𝓤) (𝓣 : Tables 𝓤 H) → Triple 𝓤 (𝓣 .C #records·no-tasks) (None 𝓤 H A mem run) → Triple 𝓤 (𝓣 .C #records·read-plan) (Reads 𝓤 H A mem run) → Triple 𝓤 (𝓣 .C #records·count-of) (Count 𝓤 H A mem run) → Triple 𝓤 (𝓣 .C #records·load) (Load 𝓤 H A mem run)
-    → Meets 𝓤 H A f.signature (WpFn 𝓤 H (𝓣 .C) (𝓣 .Λ) code.function) (f.spec 𝓤 H A mem run)
-read-rows-meets 𝓤 H A W mem run 𝓣 kn kr kc kl =
-    walk-meets 𝓤 H A f.ended stayed W (goes-none-slice 𝓤 H A W 5 (0 ∷ []) tt (plain (λ _. u8)) yes, (goes-gave-slice 𝓤 H A W 5 1 tt (plain (λ _. u64)), (goes-gave-slice 𝓤 H A W 5 2 tt (plain (λ _. u64)), (goes-gave-slice 𝓤 H A W 5 3 tt (plain (λ _. u64)), (goes-gave-slice 𝓤 H A W 5 4 tt (plain (λ _. u64)), tt))))) (f.clauses 𝓤 H A mem run) (WpFn 𝓤 H (𝓣 .C) (𝓣 .Λ) code.function) (WpFn-mono 𝓤 H (W .laws) 𝓣 code.function)
-    (read-rows-walks 𝓤 H A W mem run (𝓣 .C) (𝓣 .Λ) (fmOf 𝓤 H (W .laws) 𝓣) kn kr kc kl)
-
-pub read-rows-spec : {M : Type 1} → stated.statement M
-unfolding code.routine tablesOf
-read-rows-spec 𝓤 H 𝓜 𝓖 𝓡 =
-    entered 𝓤 H (tripleOf 𝓤 H (𝓖 .A) f.signature (f.spec 𝓤 H (𝓖 .A) (𝓜 .mem) (𝓡 .run)))
-    (tables 𝓤 H 𝓜 𝓡 code.env .C) (tables 𝓤 H 𝓜 𝓡 code.env .Λ) #records·read-rows code.function (code.unfolded 𝓤 H 𝓜 𝓡)
-    (read-rows-meets 𝓤 H (𝓖 .A) (givenOf 𝓤 H 𝓜 𝓖) (𝓜 .mem) (𝓡 .run) (tablesOf 𝓤 H 𝓜 (tables 𝓤 H 𝓜 𝓡 code.env))
-    (cited 𝓤 H (None 𝓤 H (𝓖 .A) (𝓜 .mem) (𝓡 .run)) 𝓜 𝓡 code.env #records·no-tasks none-def.routine code.calls-records·no-tasks (none-thm.met 𝓤 H 𝓜 𝓖 𝓡))
-    (cited 𝓤 H (Reads 𝓤 H (𝓖 .A) (𝓜 .mem) (𝓡 .run)) 𝓜 𝓡 code.env #records·read-plan reads-def.routine code.calls-records·read-plan (reads-thm.met 𝓤 H 𝓜 𝓖 𝓡))
-    (cited 𝓤 H (Count 𝓤 H (𝓖 .A) (𝓜 .mem) (𝓡 .run)) 𝓜 𝓡 code.env #records·count-of count-def.routine code.calls-records·count-of (count-thm.met 𝓤 H 𝓜 𝓖 𝓡))
-    (cited 𝓤 H (Load 𝓤 H (𝓖 .A) (𝓜 .mem) (𝓡 .run)) 𝓜 𝓡 code.env #records·load load-def.routine code.calls-records·load (load-thm.met 𝓤 H 𝓜 𝓖 𝓡)))
+pub read-rows-spec : {M : Type 1} → statement M
+read-rows-spec = tie.close (tie.spec (λ c κs. search needs) (λ c κs. search needs) kept-requires (λ c. search needs) (λ c. search needs) (λ c. search needs) (λ c. search needs) returns)

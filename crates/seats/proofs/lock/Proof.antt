@@ -1,11 +1,12 @@
 use Prim.Native.Nat.{_≤_}
 use borrow.Author.Needs.{needs}
-use mathlib.Core.Path.{_≡_}
+use mathlib.Core.Path.{_≡_, refl}
 use mathlib.Core.Bool.{true, false, _&&_}
 use native.Mathlib.Omega.{arith}
 use Rattle.laws.specs.BoolLaws.{both-left, both-right}
+use Rattle.model.specs.RuleLaws.{in-range}
 use Rattle.seats.specs.Seats.{isV, isN, isM}
-use Rattle.seats.specs.SeatLaws.{Ranges, in-range, ranges, when-yes, when-no}
+use Rattle.seats.specs.SeatLaws.{Ranges, ranges, when-yes, when-no}
 use Rattle.seats.proofs.lock.Statement.{statement}
 use Rattle.seats.proofs.lock.Tie as tie
 
@@ -18,13 +19,13 @@ inside c =
     (ranges (a .v) (a .n) (both-left (isV (a .v) && isN (a .n)) (isM (a .m)) (ok c)), in-range (a .m) 1 32 (both-right (isV (a .v) && isN (a .n)) (isM (a .m)) (ok c)))
 
 returns : tie.Need-returns
-returns c = when-yes (ok (c .before)) (c .at .ensures)
+returns c = when-yes refl (ok (c .before)) (c .at .ensures)
 
 returns-2 : tie.Need-returns-2
 returns-2 c =
     let a = c .before .before .before .before .before .before .before .args in
     let e : ((isV (a .v) && isN (a .n)) && isM (a .m)) ≡ false = cc in
-    when-no _ e
+    when-no _ refl e
 
 pub lock-spec : {M : Type 1} → statement M
 lock-spec =

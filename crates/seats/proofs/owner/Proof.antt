@@ -1,26 +1,17 @@
 use Prim.Native.Nat.{_≤_}
 use borrow.Author.Needs.{needs}
-use mathlib.Core.Path.{_≡_, sym, _∙_}
-use mathlib.Core.Bool.{true}
+use mathlib.Core.Path.{sym, _∙_}
 use native.Mathlib.Omega.{arith}
-use Rattle.model.specs.Rules.{within}
-use Rattle.seats.specs.SeatLaws.{in-range, when-yes, when-no}
+use Rattle.model.specs.RuleLaws.{in-range}
+use Rattle.seats.specs.SeatLaws.{when-yes, when-no}
 use Rattle.seats.proofs.owner.Statement.{statement}
 use Rattle.seats.proofs.owner.Tie as tie
 
-ok : (c : tie.Then1) → within (c .before .before .before .args .m) 1 32 ≡ true
-ok c = sym (c .before .within .ensures) ∙ c .if1 .taken
-
 inside : (c : tie.Then1) → let x = c .before .before .before .args .m in (1 ≤ x) × (x ≤ 32)
-inside c = in-range (c .before .before .before .args .m) 1 32 (ok c)
-
-returns : tie.Need-returns
-returns c = when-yes (ok (c .before)) (c .at .ensures)
-
-returns-2 : tie.Need-returns-2
-returns-2 c = when-no _ (sym (c .before .within .ensures) ∙ c .if1 .left)
+inside c = in-range (c .before .before .before .args .m) 1 32 (sym (c .before .within .ensures) ∙ c .if1 .taken)
 
 pub owner-spec : {M : Type 1} → statement M
 owner-spec =
     tie.close
-    (tie.spec (λ c κs. search needs) (λ c. omega (arith, inside c)) (λ c. omega (arith, inside c)) (λ c κs. search needs) returns returns-2)
+    (tie.spec (λ c κs. search needs) (λ c. omega (arith, inside c)) (λ c. omega (arith, inside c)) (λ c κs. search needs)
+    (λ c. when-yes (c .before .before .within .ensures) (c .before .if1 .taken) (c .at .ensures)) (λ c. when-no _ (c .before .within .ensures) (c .if1 .left)))

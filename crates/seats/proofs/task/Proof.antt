@@ -1,5 +1,5 @@
 use borrow.Author.Needs.{needs}
-use mathlib.Core.Path.{_≡_}
+use mathlib.Core.Path.{_≡_, refl}
 use mathlib.Core.Bool.{true, false, _&&_}
 use native.Mathlib.Omega.{arith}
 use Rattle.seats.specs.Seats.{isV, isN}
@@ -14,13 +14,13 @@ inside : (c : tie.Then1) → let a = c .before .before .before .before .before .
 inside c = let a = c .before .before .before .before .before .args in ranges (a .v) (a .n) (ok c)
 
 returns : tie.Need-returns
-returns c = when-yes (ok (c .before)) (c .at .ensures)
+returns c = when-yes refl (ok (c .before)) (c .at .ensures)
 
 returns-2 : tie.Need-returns-2
 returns-2 c =
     let a = c .before .before .before .before .before .args in
     let e : (isV (a .v) && isN (a .n)) ≡ false = cc in
-    when-no _ e
+    when-no _ refl e
 
 pub task-spec : {M : Type 1} → statement M
 task-spec =

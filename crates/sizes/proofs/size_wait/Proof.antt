@@ -11,13 +11,12 @@ size-wait-spec =
     tie.close
     (tie.spec
     (λ c κs. search needs)
+    (λ c. let h = c .before .before .before .before .before .before .pre in none-sized 110 (place-none (h .1) _ _ (c .before .is-wait .ensures) (not-true _ (c .if1 .taken))))
     (λ c κs. search needs)
-    (λ c. let h = c .before .before .before .before .before .before .before .pre in none-sized 110 (place-none (h .1) _ _ (c .before .before .lock-cell .ensures .is) (c .before .is-global .ensures) (not-true _ (c .if1 .taken))))
-    (λ c κs. search needs)
-    (λ c κs. search needs)
-    (λ c. search needs)
-    (λ c. search needs)
     (λ c κs. search needs)
     (λ c. search needs)
+    (λ c. search needs)
     (λ c κs. search needs)
-    (λ c. let h = c .before .before .before .before .before .before .before .before .before .before .before .pre in sized-as (place-text (h .1) _ _ (c .before .before .before .before .before .before .lock-cell .ensures .is) (c .before .before .before .before .before .is-global .ensures) (h .2) (h .4) (not-false _ (c .before .before .before .before .if1 .left)) (c .before .before .before .task-cell .ensures .is) (c .before .before .task-cell2 .ensures .is) (c .before .answer-at .ensures)) (c .wait-size .ensures)))
+    (λ c. search needs)
+    (λ c κs. search needs)
+    (λ c. let h = c .before .before .before .before .before .before .before .before .before .before .pre in sized-as (place-text (h .1) _ _ (c .before .before .before .before .before .is-wait .ensures) (h .2) (h .4) (not-false _ (c .before .before .before .before .if1 .left)) (c .before .before .before .task-cell .ensures .is) (c .before .before .task-cell2 .ensures .is) (c .before .answer-at .ensures)) (c .wait-size .ensures)))

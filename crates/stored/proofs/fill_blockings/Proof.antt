@@ -30,7 +30,7 @@ fill-blockings-spec =
     let h = t .before .loop .inv in (
       simp length-set (h .0),
       tasks-keep _ _ (h .1),
-      held-more _ (h .2) (λ j m. omega arith) (omega (arith, t .loop-test .taken, h .1 .room, t .before .before .before .before .before .before .pre .0 .tasks-few)) (c .local-blocking .ensures),
+      held-more _ (h .2) (λ j m. omega arith) (omega (arith, t .loop-test .taken, h .1 .room)) (c .local-blocking .ensures),
     ))
     (λ c. search needs)
     (λ c. let h = c .before .loop .inv in (h .1, held-all (h .2) (c .loop-test .left))))

@@ -20,12 +20,12 @@ fill-responses-spec =
     (λ c. (refl, held-none))
     (λ c κs. let h = c .before .before .before .before .before .before .before .before .before .pre in (h .0, h .1, h .2, h .3, omega (arith, c .loop-test .taken), omega arith))
     (λ c. search needs)
-    (λ c. let h = c .before .before .before .before .before .before .before .before .before .before .pre in omega (arith, c .before .before .loop .inv .0, h .4, h .0 .tasks-few, c .before .loop-test .taken))
+    (λ c. let h = c .before .before .before .before .before .before .before .before .before .before .pre in omega (arith, c .before .before .loop .inv .0, h .4, c .before .loop-test .taken))
     (λ c. search needs)
     (λ c. search needs)
     (λ c. let h = c .before .before .loop .inv in let p = c .before .before .before .before .before .before .before .before .before .before .pre in (
       simp length-set (h .0),
-      held-more _ (h .1) (λ j m. omega arith) (omega (arith, h .0, p .4, p .0 .tasks-few, c .before .loop-test .taken)) (c .section-response .ensures),
+      held-more _ (h .1) (λ j m. omega arith) (omega (arith, h .0, p .4, c .before .loop-test .taken)) (c .section-response .ensures),
     ))
     (λ c. search needs)
     (λ c. held-all (c .before .loop .inv .1) (c .loop-test .left)))

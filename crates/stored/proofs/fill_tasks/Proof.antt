@@ -17,12 +17,12 @@ fill-tasks-spec =
     (tie.spec
     (λ r vt mt ts tf₀ n i₀ tf i. (length tf ≡ length tf₀) × TaskFigures (systemIn r vt mt ts) (taskRow ts) i tf)
     (λ r vt mt ts tf₀ n i₀ tf i. n - i)
-    (λ c. (refl, tasks-none (c .before .before .before .before .pre .1)))
+    (λ c. (refl, tasks-none))
     (λ c κs. search needs)
     (λ c κs. search needs)
     (λ c κs. search needs)
     (λ c κs. search needs)
-    (λ c κs. let t = c .before .before .before .before .before in omega (arith, t .loop-test .taken, t .before .loop .inv .1 .room, t .before .before .before .before .before .before .pre .0 .tasks-few))
+    (λ c κs. let t = c .before .before .before .before .before in omega (arith, t .loop-test .taken, t .before .loop .inv .0, t .before .before .before .before .before .before .pre .1))
     (λ c. search needs)
     (λ c. search needs)
     (λ c. let p = c .before .before in
@@ -30,7 +30,7 @@ fill-tasks-spec =
     let h = t .before .loop .inv in (
       p .put-task .kept .0 ∙ h .0,
       rw (p .put-task .ensures)
-          (tasks-more _ (h .1) (omega (arith, t .loop-test .taken, t .before .before .before .before .before .before .pre .0 .tasks-few))
+          (tasks-more _ (h .1) (omega (arith, t .loop-test .taken, h .0, t .before .before .before .before .before .before .pre .1))
           (p .before .before .before .before .before .longest-global .ensures) (p .before .before .before .before .global-sum .ensures) (p .before .before .before .global-count .ensures) (p .before .before .lengths-of .ensures)),
     ))
     (λ c. search needs)

@@ -18,15 +18,15 @@ unfolding vcpuRow systemIn
 fill-vcpus-spec =
     tie.close
     (tie.spec
-    (λ r vt mt ts tf vf₀ n o a₀ vf a. (length vf ≡ length vf₀) × VcpuFigures (systemIn r vt mt ts) (vcpuRow vt) a vf)
-    (λ r vt mt ts tf vf₀ n o a₀ vf a. n - a)
-    (λ c. (refl, vcpus-none (c .before .before .before .before .before .pre .2)))
+    (λ r vt mt ts vf₀ n o a₀ vf a. (length vf ≡ length vf₀) × VcpuFigures (systemIn r vt mt ts) (vcpuRow vt) a vf)
+    (λ r vt mt ts vf₀ n o a₀ vf a. n - a)
+    (λ c. (refl, vcpus-none (c .before .before .before .before .pre .1)))
     (λ c κs. search needs)
     (λ c κs. search needs)
     (λ c κs. search needs)
     (λ c κs. search needs)
     (λ c. omega (arith, c .overrun-by .ensures .small, c .before .vcpu-cell2 .ensures .small, c .before .before .ght-of .ensures .small))
-    (λ c κs. let t = c .before .before .before .before .before in omega (arith, t .loop-test .taken, t .before .loop .inv .1 .room, t .before .before .before .before .before .before .before .pre .0 .vcpus-few))
+    (λ c κs. let t = c .before .before .before .before .before in omega (arith, t .loop-test .taken, t .before .loop .inv .1 .room, t .before .before .before .before .before .before .pre .0 .vcpus-few))
     (λ c. search needs)
     (λ c. search needs)
     (λ c. let p = c .before .before in
@@ -35,7 +35,7 @@ fill-vcpus-spec =
     let g = is-then (p .before .before .before .before .ght-of .ensures) (ap (ght _) (p .before .before .before .before .before .vcpu-cell .ensures .is)) in (
       p .put-vcpu .kept .0 ∙ h .0,
       rw (p .put-vcpu .ensures)
-          (vcpus-more _ (h .1) (omega (arith, t .loop-test .taken, t .before .before .before .before .before .before .before .pre .0 .vcpus-few)) g
+          (vcpus-more _ (h .1) (omega (arith, t .loop-test .taken, t .before .before .before .before .before .before .pre .0 .vcpus-few)) g
           (start-is _ _ (p .before .before .before .vcpu-cell2 .ensures) g (p .before .before .overrun-by .ensures))),
     ))
     (λ c. search needs)

@@ -14,7 +14,7 @@ stored-spec =
     (λ c κs. search needs)
     (λ c κs. let p = c .before .before .before .before .before in
     let h = p .fill-preemptions .ensures in
-    let b = p .before .before .before .before .before .before .before .before .before in
+    let b = p .before .before .before .before .before .before .before .before in
     let e = b .before .before .before .before .before .before .before .before .before .before .before .before .pre in
     (e .0, b .fill-blockings .ensures .0, h .0, h .1, e .3))
     (λ c. search needs)
@@ -22,7 +22,7 @@ stored-spec =
     (λ c. search needs)
     (λ c. let a = c .before .before in
     let p = a .before .before .before .before .before .before in
-    let b = p .before .before .before .before .before .before .before .before .before in
+    let b = p .before .before .before .before .before .before .before .before in
     let e = b .before .before .before .before .before .before .before .before .before .before .before .before .pre in
     let h = b .fill-blockings .ensures in
     let g = p .fill-preemptions .ensures in

@@ -9,17 +9,21 @@ fill-answers-spec =
     tie.close
     (tie.spec
     (λ c. search needs)
-    (λ c. search needs)
-    (λ c. search needs)
     (λ c κs. search needs)
     (λ c. search needs)
     (λ c. search needs)
     (λ c. search needs)
     (λ c. search needs)
-    (λ c. search needs)
-    (λ c. search needs)
-    (λ c κs. ((c .before .before .before .before .before .before .before .before .before .before .before .before .before .before .before .before .before .before .before .before .before .before .pre .0, c .before .before .before .before .before .before .before .before .before .before .before .before .stored .ensures), (search needs, search needs, search needs, c .before .before .before .before .before .before .before .before .before .before .before .before .before .before .before .before .before .before .before .before .before .before .pre .1, c .before .before .before .before .before .before .before .before .before .before .before .before .before .before .before .before .before .before .before .before .before .before .pre .2, c .before .before .before .before .before .before .before .before .before .before .before .before .before .before .before .before .before .before .before .before .before .before .pre .3)))
-    (λ c. (c .before .before .before .before .before .before .before .before .before .answers .kept .1 .1 .1 .1 .1 .1 .1 .1 .1 .1 .0))
-    (λ c. (c .before .before .before .before .before .before .before .before .before .answers .kept .1 .1 .1 .1 .1 .1 .1 .1 .1 .1 .1 .0))
-    (λ c. (c .before .before .before .before .before .before .before .before .before .answers .kept .1 .1 .1 .1 .1 .1 .1 .1 .1 .1 .1 .1 .0))
-    (λ c. let h = c .before .before .before .before .before .before .before .before .before .before .before .before .before .before .before .before .before .before .before .before .before .before .before .before .before .before .before .before .before .before .before .before .pre in answers-in (h .0) (c .before .before .before .before .before .before .before .before .before .before .before .before .before .before .before .before .before .before .before .before .before .before .before .before .before .before .before .before .before .before .before .before .args .va .now) (c .before .before .before .before .before .before .before .before .before .before .before .before .before .before .before .before .before .before .before .before .before .before .before .before .before .before .before .before .before .before .before .before .args .wa .now) (c .before .before .before .before .before .before .before .before .before .before .before .before .before .before .before .before .before .before .before .before .before .before .before .before .before .before .before .before .before .before .before .before .args .ta .now) (h .1) (c .before .before .before .before .before .before .before .before .before .answers .kept .1 .1 .1 .1 .1 .1 .1 .1 .1 .1 .0) (c .before .before .before .before .before .before .before .before .before .answers .ensures .0) (h .2) (c .before .before .before .before .before .before .before .before .before .answers .kept .1 .1 .1 .1 .1 .1 .1 .1 .1 .1 .1 .0) (c .before .before .before .before .before .before .before .before .before .answers .ensures .1) (h .3) (c .before .before .before .before .before .before .before .before .before .answers .kept .1 .1 .1 .1 .1 .1 .1 .1 .1 .1 .1 .1 .0) (c .before .before .before .before .before .before .before .before .before .answers .ensures .2)))
+    (λ c κs. let p = c .before .before .before .before .before .before .before .before .before .before .before .before .before .before .before .before .before .before .before .before .before .before .before .before .before .before .pre in ((p .0, c .before .before .before .before .before .before .before .before .before .before .before .before .before .before .stored .ensures), (search needs, search needs, search needs, p .3, p .4, p .5)))
+    (λ c. c .before .before .before .before .before .before .before .before .before .before .before .before .before .before .before .before .before .before .before .before .before .before .before .before .stored .kept .1 .1 .1 .1 .0)
+    (λ c. c .before .before .before .before .before .before .before .before .before .before .before .before .before .before .before .before .before .before .before .before .before .before .before .before .stored .kept .1 .1 .1 .1 .1 .1 .0)
+    (λ c. c .before .before .before .before .before .before .before .before .before .answers .kept .1 .1 .1 .1 .1 .1 .1 .1 .1 .1 .0)
+    (λ c. c .before .before .before .before .before .before .before .before .before .answers .kept .1 .1 .1 .1 .1 .1 .1 .1 .1 .1 .1 .0)
+    (λ c. c .before .before .before .before .before .before .before .before .before .answers .kept .1 .1 .1 .1 .1 .1 .1 .1 .1 .1 .1 .1 .0)
+    (λ c. let s = c .before .before .before .before .before .before .before .before .before .before .before .before .before .before .before .before .before .before .before .before .before .before .before .before .before .before .before .before .before .before .before .before .before .before .before .before in
+    let p = s .pre in
+    let a = c .before .before .before .before .before .before .before .before .before .answers in
+    answers-in (p .0) (s .args .va .now) (s .args .wa .now) (s .args .ta .now)
+    (p .3) (a .kept .1 .1 .1 .1 .1 .1 .1 .1 .1 .1 .0) (a .ensures .0)
+    (p .4) (a .kept .1 .1 .1 .1 .1 .1 .1 .1 .1 .1 .1 .0) (a .ensures .1)
+    (p .5) (a .kept .1 .1 .1 .1 .1 .1 .1 .1 .1 .1 .1 .1 .0) (a .ensures .2)))

@@ -14,7 +14,7 @@ returns-2 c = let d = c .before .before in
 returns-3 : tie.Need-returns-3
 returns-3 c = let d = c .before .before .before in
     let e = d .before .before in
-    rw (c .most .ensures, c .before .local-under .ensures .0, c .before .before .ceiling .ensures, sym (e .before .held-global .ensures) ∙ e .if1 .left, ← d .before .held-local .ensures, ne-eqb _ _ (d .if2 .left))
+    rw (c .larger .ensures, c .before .local-under .ensures .0, c .before .before .ceiling .ensures, sym (e .before .held-global .ensures) ∙ e .if1 .left, ← d .before .held-local .ensures, ne-eqb _ _ (d .if2 .left))
 
 pub task-priority-spec : {M : Type 1} → statement M
 task-priority-spec =

@@ -12,4 +12,4 @@ overrun-of-spec =
     (tie.spec
     (λ c κs. search needs)
     (λ c κs. search needs)
-    (λ c. overrun-is _ _ (c .overrun-by .ensures) (c .before .ght-of .ensures .is)))
+    (λ c. overrun-is _ _ (c .overrun-by .ensures .is) (c .before .ght-of .ensures .is)))

@@ -5,7 +5,7 @@ use borrow.Author.Needs.{needs}
 use borrow.Author.Tests.{eq-eqb, ne-eqb}
 use lib.Dec.{eqb}
 use lib.ListN.{getD}
-use Rattle.walks.specs.WalkLaws.{Down, down-none, down-more, down-out, down-all}
+use Rattle.laws.specs.RangeLaws.{Down, down-none, down-more, down-out, down-all}
 use Rattle.walks.proofs.column.Statement.{statement}
 use Rattle.walks.proofs.column.Tie as tie
 

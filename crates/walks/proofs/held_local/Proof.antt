@@ -2,8 +2,8 @@
 use mathlib.Core.Path.{_∙_, ap₂}
 use mathlib.Core.Bool.{_&&_}
 use borrow.Author.Needs.{needs}
+use Rattle.laws.specs.RangeLaws.{Down, down-none, down-more, down-out, down-all}
 use Rattle.seats.specs.Seats.{isLocal, holdsIt}
-use Rattle.walks.specs.WalkLaws.{Down, down-none, down-more, down-out, down-all}
 use Rattle.walks.proofs.held_local.Statement.{statement}
 use Rattle.walks.proofs.held_local.Tie as tie
 

@@ -1,7 +1,7 @@
 -- The task holds no mutex above m.
 use borrow.Author.Needs.{needs}
+use Rattle.laws.specs.RangeLaws.{Down, down-none, down-more, down-out, down-all}
 use Rattle.seats.specs.Seats.{holdsIt}
-use Rattle.walks.specs.WalkLaws.{Down, down-none, down-more, down-out, down-all}
 use Rattle.walks.proofs.last_held.Statement.{statement}
 use Rattle.walks.proofs.last_held.Tie as tie
 

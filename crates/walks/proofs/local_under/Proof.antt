@@ -4,7 +4,7 @@ use mathlib.Core.Bool.{_&&_}
 use borrow.Author.Needs.{needs}
 use Rattle.seats.specs.Seats.{localWaiter}
 use lib.Dec.{leb}
-use Rattle.walks.specs.WalkLaws.{Down, down-none, down-more, down-out, down-all}
+use Rattle.laws.specs.RangeLaws.{Down, down-none, down-more, down-out, down-all}
 use Rattle.walks.proofs.local_under.Statement.{statement}
 use Rattle.walks.proofs.local_under.Tie as tie
 

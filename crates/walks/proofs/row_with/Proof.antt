@@ -6,8 +6,8 @@ use borrow.Author.Needs.{needs}
 use borrow.Author.Tests.{lt-ltb, le-ltb}
 use lib.Dec.{ltb}
 use lib.ListN.{getD}
+use Rattle.laws.specs.RangeLaws.{Down, down-none, down-more, down-out, down-all}
 use Rattle.walks.specs.Walks.{columnOf}
-use Rattle.walks.specs.WalkLaws.{Down, down-none, down-more, down-out, down-all}
 use Rattle.walks.proofs.row_with.Statement.{statement}
 use Rattle.walks.proofs.row_with.Tie as tie
 

@@ -1,14 +1,15 @@
 use mathlib.Core.Path.{sym, _∙_}
-use Rattle.supplies.specs.SupplyLaws.{first-test, known-range}
+use Rattle.supplies.specs.SupplyLaws.{known-range}
 use Rattle.lockboard.specs.BoardLaws.{ask-by}
 use borrow.Author.Needs.{needs}
+use Rattle.model.specs.JudgeLaws.{clear-test}
 use Rattle.lockboard.proofs.Board.ask_on.Statement.{statement}
 use Rattle.lockboard.proofs.Board.ask_on.Tie as tie
 
 asked-requires : tie.Need-asked-requires
 asked-requires c κs = let d = c .before .before in
     let a = d .before .before .before .before .before .before .before .before .before .before .before .before .before .args in
-    let k = known-range (a .view .now) (a .v) (a .n) (a .m) (first-test _ _ (sym (d .ask-fault .ensures) ∙ c .enum-told .given .1)) in (k .highV, k .highN, k .highM)
+    let k = known-range (a .view .now) (a .v) (a .n) (a .m) (clear-test _ _ _ (sym (d .ask-fault .ensures) ∙ c .enum-told .given .1)) in (k .highV, k .highN, k .highM)
 
 returns : tie.Need-returns
 returns c = let d = c .before .before .before in

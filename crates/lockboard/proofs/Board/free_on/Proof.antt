@@ -1,14 +1,15 @@
 use mathlib.Core.Path.{sym, _∙_}
-use Rattle.supplies.specs.SupplyLaws.{first-test, known-range}
+use Rattle.supplies.specs.SupplyLaws.{known-range}
 use Rattle.lockboard.specs.BoardLaws.{free-by}
 use borrow.Author.Needs.{needs}
+use Rattle.model.specs.JudgeLaws.{clear-test}
 use Rattle.lockboard.proofs.Board.free_on.Statement.{statement}
 use Rattle.lockboard.proofs.Board.free_on.Tie as tie
 
 freed-requires : tie.Need-freed-requires
 freed-requires c κs = let d = c .before .before in
     let a = d .before .before .before .before .before .args in
-    let k = known-range (a .view .now) (a .v) (a .n) (a .m) (first-test _ _ (sym (d .free-fault .ensures) ∙ c .enum-told .given .1)) in (k .highV, k .highM)
+    let k = known-range (a .view .now) (a .v) (a .n) (a .m) (clear-test _ _ _ (sym (d .free-fault .ensures) ∙ c .enum-told .given .1)) in (k .highV, k .highM)
 
 returns : tie.Need-returns
 returns c = let d = c .before .before .before in

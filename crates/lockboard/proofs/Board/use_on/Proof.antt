@@ -1,14 +1,15 @@
 use mathlib.Core.Path.{sym, _∙_}
-use Rattle.supplies.specs.SupplyLaws.{first-test, vcpu-range}
+use Rattle.supplies.specs.SupplyLaws.{vcpu-range}
 use Rattle.lockboard.specs.BoardLaws.{use-by}
 use borrow.Author.Needs.{needs}
+use Rattle.model.specs.JudgeLaws.{clear-test}
 use Rattle.lockboard.proofs.Board.use_on.Statement.{statement}
 use Rattle.lockboard.proofs.Board.use_on.Tie as tie
 
 used-requires : tie.Need-used-requires
 used-requires c κs = let d = c .before .before in
     let a = d .before .before .before .before .before .before .before .before .before .before .before .args in
-    vcpu-range (a .view .now) (a .v) (first-test _ _ (sym (d .use-fault .ensures) ∙ c .enum-told .given .1))
+    vcpu-range (a .view .now) (a .v) (clear-test _ _ _ (sym (d .use-fault .ensures) ∙ c .enum-told .given .1))
 
 returns : tie.Need-returns
 returns c = let d = c .before .before .before in
