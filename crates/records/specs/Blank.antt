@@ -18,16 +18,19 @@ use Rattle.records.specs.ReadLaws.{nums-back}
 abbrev pub blankTask : Task
 blankTask = record { v = 0; n = 0; period = 0; first = 0; count = 0; locks = replicate maxLocks noLock }
 
--- as many as a plan has tasks at most
-unfoldable pub noTasks : List Task
-noTasks = replicate maxTasks blankTask
+-- eight of them
+abbrev pub atATime : ℕ
+atATime = 8
 
-pub none-many : length noTasks ≡ maxTasks
+unfoldable pub noTasks : List Task
+noTasks = replicate atATime blankTask
+
+pub none-many : length noTasks ≡ atATime
 unfolding noTasks
-none-many = length-replicate {A = Task} maxTasks blankTask
+none-many = length-replicate {A = Task} atATime blankTask
 
 -- kept as records and copied back, the first n rows of numbers are as they were
-pub kept-rows : (t : List ℕ) (n : ℕ) → n ≤ maxTasks → maxTasks * taskWidth ≤ length t → over (sheetRows (cutTo (min n maxTasks) (saved noTasks t n))) t ≡ t
+pub kept-rows : (t : List ℕ) (n : ℕ) → n ≤ atATime → n * taskWidth ≤ length t → over (sheetRows (cutTo (min n maxTasks) (saved noTasks t n))) t ≡ t
 unfolding cutTo saved sheetRows
 kept-rows t n l room =
     let ks : List Task = rows n (taskOf t) in

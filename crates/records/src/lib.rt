@@ -84,7 +84,7 @@ fn put_five(d: &mut [u64], k: usize, a: u64, b: u64, c: u64, e: u64, f: u64)
 
 // Writes the numbers of a record as row i.
 fn put_row(d: &mut [u64], i: usize, t: Task)
-    requires { ⌜ (i < 64) × (1856 ≤ length (now d)) ⌝ }
+    requires { ⌜ (i < 64) × (i * 29 + 29 ≤ length (now d)) ⌝ }
     ensures { λ r. ⌜ now (d .exit) ≡ sets (now (d .entry)) (i * 29) (taskNums t) ⌝ }
 {
     let k = i * 29;
@@ -107,7 +107,7 @@ fn task_at(tasks: &[Task], i: usize) -> Task
 
 // Copies the first n records, and no more than 64, into rows of numbers, and returns how many numbers they have.
 pub fn load(tasks: &[Task], rows: &mut [u64], n: usize) -> usize
-    requires { ⌜ 1856 ≤ length (now rows) ⌝ }
+    requires { ⌜ min n 64 * 29 ≤ length (now rows) ⌝ }
     ensures { λ r. ⌜ (r ≡ length (sheetRows (cutTo (min n 64) (now (tasks .entry))))) × (now (rows .exit) ≡ over (sheetRows (cutTo (min n 64) (now (tasks .entry)))) (now (rows .entry))) ⌝ }
 {
     let k = few_of(tasks.len(), n);
@@ -222,8 +222,8 @@ pub fn read_plan(
     a
 }
 
-// A table of 64 blank records.
-fn no_tasks() -> [Task; 64]
+// A table of eight blank records.
+fn no_tasks() -> [Task; 8]
     ensures { λ r. ⌜ r ≡ noTasks ⌝ }
 {
     let l = Lock { m: 0, t: 0, run: 0 };
@@ -236,17 +236,29 @@ fn no_tasks() -> [Task; 64]
         count: 0,
         locks: ls,
     };
-    [t; 64]
+    [t; 8]
 }
 
-// Keeps the tasks of the first n rows of numbers as records, in a table of 64, and copies their numbers back: the rows are as they were.
+// Keeps the tasks of the first n rows of numbers as records, in a table of eight, and copies their numbers back: the rows are as they were.
 fn kept(rows: &mut [u64], n: usize)
-    requires { ⌜ (n ≤ 64) × (1856 ≤ length (now rows)) ⌝ }
+    requires { ⌜ (n ≤ 8) × (n * 29 ≤ length (now rows)) ⌝ }
     ensures { λ r. ⌜ now (rows .exit) ≡ now (rows .entry) ⌝ }
 {
     let mut tasks = no_tasks();
     save(&mut tasks, rows, n);
     load(&tasks, rows, n);
+}
+
+// The same for n rows, eight at a time, so that little is cleared for a small plan.
+fn all_kept(rows: &mut [u64], n: usize)
+    requires { ⌜ (n ≤ 64) × (n * 29 ≤ length (now rows)) ⌝ }
+    ensures { λ r. ⌜ now (rows .exit) ≡ now (rows .entry) ⌝ }
+{
+    let mut i: usize = 0;
+    while i < n {
+        kept(&mut rows[i * 29..], few_of(8, n - i));
+        i += 8;
+    }
 }
 
 // Reads bytes offered as a plan into tables of numbers with room for every plan, in one pass, its tasks by way of a table of records. Where the plan is refused, the tables hold the rows of the lines before the first that is refused.
@@ -266,6 +278,6 @@ pub fn read_rows(
 {
     let a = reader::read_lines(src, vt, mt, ot, rows);
     let n = count_of(a);
-    kept(rows, n);
+    all_kept(rows, n);
     a
 }

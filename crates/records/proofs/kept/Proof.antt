@@ -1,7 +1,7 @@
 -- `records::kept` meets its contract: a walk of its MIR, by hand. A local table of records is lent as a `&mut [Task]` to `save`, beside the rows, which are lent as a `&[u64]`; both are taken back; then the table is lent as a `&[Task]` to `load`, which is given the rows. All that the proof knows of each callee is that it meets its contract.
 -- The borrow of the rows is opened for the first loan, and closed after it; then it goes to `load` at its own lifetime, share and ghost name, and is given up for good (`gave-slice`). For each loan a lifetime is made, and ended after the call.
 -- Assumes nothing.
-use Rattle.records.proofs.Kit.{refl, sym, ap, subst, _≡_, _∙_, ℕ, _≤_, min, _∷_, List, length, URA, named, w64, Ty, imm, tyRef, mut, erased, Val, vunit, SProp, ent, emp, id⊢, exE, snd∗, GName, Lft, Share, ftrue, flft, fat, fsep, Fml, froom, flent, Memory, Routine, Heap, Calls, Loops, WpFn, Tables, Atoms, sem, Fun, fact, givenOf, tables, tablesOf, Given, ‵, _⊛_, ⋆, _$_, _∵_, !, qed, by, move, suffices, frame, done, split, join, rewrite, fsplit, fjoin, drop, feqI, raw, some, later, use0, use1, use2, pick, await, use3, feqL, look, init, forget, stop, fld, from, load, of-opd, assigns, returns, enter, alloc1, alloc0, params1, pass1, pass0, free1, free0, hop, lit, unit-lit, and-then, no-more, land, addr, whole, sub, look-in, agg, WpFn-mono, FmC, fmOf, owns, Is, shows, uint-makes, uint-vals, uint-tells, uint-lawful, Nothing, nothing-lawful, usize, u64, sliceVal, ShrSlice, Room, slice-vals, MutSlice, mut-slice-tells, at-slice, sliceTy, finally, plain, owned, nothing, peeks, heard, Vals, onEntry, Meets, tripleOf, entered, cited, says, Stays, walkOf, Walks, ends-at, walked, walk-meets, needs, stay-none, goes-none, gave-slice, goes-gave-slice, yes, RefT, arith, fullShare, opens-slice, closes-slice, row, whole-in, whole-out, pureI, Held, lends-slice, slice-back, lends-shr-slice, lit<, pointee, shares, Contract, Triple, calls-at, ensured, lasts, lft-new, lft-end, lent-back, cells, Arr, arr-parts, []}
+use Rattle.records.proofs.Kit.{_*_, refl, sym, ap, subst, _≡_, _∙_, ℕ, _≤_, min, _∷_, List, length, URA, named, w64, Ty, imm, tyRef, mut, erased, Val, vunit, SProp, ent, emp, id⊢, exE, snd∗, GName, Lft, Share, ftrue, flft, fat, fsep, Fml, froom, flent, Memory, Routine, Heap, Calls, Loops, WpFn, Tables, Atoms, sem, Fun, fact, givenOf, tables, tablesOf, Given, ‵, _⊛_, ⋆, _$_, _∵_, !, qed, by, move, suffices, frame, done, split, join, rewrite, fsplit, fjoin, drop, feqI, raw, some, later, use0, use1, use2, pick, await, use3, feqL, look, init, forget, stop, fld, from, load, of-opd, assigns, returns, enter, alloc1, alloc0, params1, pass1, pass0, free1, free0, hop, lit, unit-lit, and-then, no-more, land, addr, whole, sub, look-in, agg, WpFn-mono, FmC, fmOf, owns, Is, shows, uint-makes, uint-vals, uint-tells, uint-lawful, Nothing, nothing-lawful, usize, u64, sliceVal, ShrSlice, Room, slice-vals, MutSlice, mut-slice-tells, at-slice, sliceTy, finally, plain, owned, nothing, peeks, heard, Vals, onEntry, Meets, tripleOf, entered, cited, says, Stays, walkOf, Walks, ends-at, walked, walk-meets, needs, stay-none, goes-none, gave-slice, goes-gave-slice, yes, RefT, arith, fullShare, opens-slice, closes-slice, row, whole-in, whole-out, pureI, Held, lends-slice, slice-back, lends-shr-slice, lit<, pointee, shares, Contract, Triple, calls-at, ensured, lasts, lft-new, lft-end, lent-back, cells, Arr, arr-parts, []}
 use types.Run.{load as read}
 use denote.Memory.{mem as inMem}
 use Rattle.tables.specs.Layout.{over}
@@ -60,7 +60,7 @@ module _ {M : Type 1} (𝓤 : URA M) (H : Heap 𝓤) (A : Atoms 𝓤) (mem : Mem
   abbrev Load : Contract 𝓤
   Load = tripleOf 𝓤 H A load.signature (load.spec 𝓤 H A mem run)
 
-module _ {M : Type 1} (𝓤 : URA M) (H : Heap 𝓤) (A : Atoms 𝓤) (W : Given 𝓤 H A) (mem : Memory → SProp 𝓤) (run : Routine → Fun 𝓤) (κ : Lft) (q : Share) (b o : ℕ) (γ₀ : GName) (ys : List ℕ) (n : ℕ) (n-val : Val) (n-is : Is usize n (n-val ∷ [])) (room : Room u64 (length ys)) (few : n ≤ 64) (long : 1856 ≤ length ys) where
+module _ {M : Type 1} (𝓤 : URA M) (H : Heap 𝓤) (A : Atoms 𝓤) (W : Given 𝓤 H A) (mem : Memory → SProp 𝓤) (run : Routine → Fun 𝓤) (κ : Lft) (q : Share) (b o : ℕ) (γ₀ : GName) (ys : List ℕ) (n : ℕ) (n-val : Val) (n-is : Is usize n (n-val ∷ [])) (room : Room u64 (length ys)) (few : n ≤ 8) (long : n * 29 ≤ length ys) where
   -- the rows under the name γ
   abbrev ref : GName → RefT (List ℕ)
   ref γ = record { ptr = (b, o); name = γ; now = ys }
@@ -106,14 +106,14 @@ module _ {M : Type 1} (𝓤 : URA M) (H : Heap 𝓤) (A : Atoms 𝓤) (W : Given
       to-save = (((α, (β, tt)), (fullShare, (fullShare, tt)), tt, (x l γ noTasks, (ref δ, (n, tt))), (s l noTasks ∷ [], (v ∷ [], (n-val ∷ [], tt)))), tt)
 
       goes-save : ent 𝓤 (⋆ 𝓤 H A ((‵ (flft α fullShare) ⊛ ‵ (flft β fullShare) ⊛ ‵ ftrue) ∷ ‵ (fsep (Mut α l γ) (fsep (Rows β δ) (fsep (usize .own n (n-val ∷ [])) ftrue))) ∷ [])) (Save 𝓤 H A mem run .pre to-save)
-      goes-save = qed W ((‵ (flft α fullShare) ⊛ ‵ (flft β fullShare) ⊛ ‵ ftrue) ∷ ‵ (fsep (Mut α l γ) (fsep (Rows β δ) (fsep (usize .own n (n-val ∷ [])) ftrue))) ∷ []) ∵ says ! (few, let k = none-many in omega arith) $ frame ! $ done !
+      goes-save = qed W ((‵ (flft α fullShare) ⊛ ‵ (flft β fullShare) ⊛ ‵ ftrue) ∷ ‵ (fsep (Mut α l γ) (fsep (Rows β δ) (fsep (usize .own n (n-val ∷ [])) ftrue))) ∷ []) ∵ says ! (omega arith, let k = none-many in omega arith) $ frame ! $ done !
 
     module _ (ks : List Task) where
       abbrev to-load : Load 𝓤 H A mem run .Ghost
       to-load = (((α, (κ, tt)), (fullShare, (q, tt)), tt, (x l γ ks, (ref γ₀, (n, tt))), (s l ks ∷ [], (v ∷ [], (n-val ∷ [], tt)))), tt)
 
       goes-load : ent 𝓤 (⋆ 𝓤 H A ((‵ (flft α fullShare) ⊛ ‵ (flft κ q) ⊛ ‵ ftrue) ∷ ‵ (fsep (Shr α l γ ks) (fsep Own (fsep (usize .own n (n-val ∷ [])) ftrue))) ∷ [])) (Load 𝓤 H A mem run .pre to-load)
-      goes-load = qed W ((‵ (flft α fullShare) ⊛ ‵ (flft κ q) ⊛ ‵ ftrue) ∷ ‵ (fsep (Shr α l γ ks) (fsep Own (fsep (usize .own n (n-val ∷ [])) ftrue))) ∷ []) ∵ says ! long $ frame ! $ done !
+      goes-load = qed W ((‵ (flft α fullShare) ⊛ ‵ (flft κ q) ⊛ ‵ ftrue) ∷ ‵ (fsep (Shr α l γ ks) (fsep Own (fsep (usize .own n (n-val ∷ [])) ftrue))) ∷ []) ∵ says ! (omega arith) $ frame ! $ done !
 
   -- what `load` says of the rows
   abbrev Said : List Task → ℕ → List ℕ → Type 0
@@ -139,7 +139,7 @@ module _ {M : Type 1} (𝓤 : URA M) (H : Heap 𝓤) (A : Atoms 𝓤) (W : Given
         rewrite ! 15 (λ (m : ℕ). ‵ (fat fullShare lent l₇ 0 (sliceVal (l₃, 0) m))) (sym none-many) refl $
         assigns ! (addr ! (from ! (fld ! refl (hop ! (look-in ! 27 (sub ! 0 refl (whole !))) (stop !))))) (from ! (stop !)) (init ! 13 refl (tt, tt)) $
         assigns ! (agg ! (and-then ! (read ! (from ! (stop !)) (look ! 13 refl)) (and-then ! (read ! (from ! (fld ! refl (stop !))) (look-in ! 27 (sub ! 1 refl (whole !)))) (no-more !)))) (from ! (stop !)) (init ! 11 refl (tt, (tt, (record { fits = room .0 }, tt)))) $
-        move ! (23 ∷ 0 ∷ []) $ use2 W (‵ (arr-parts (shares T.the-row) 64 .part fullShare noTasks l₃ 0)) (to-table 𝓤 H A W noTasks l₃ w₀) $ fsplit ! $ drop ! $ use1 W (‵ (cells (inMem T.the-row) noTasks l₃ 0)) (whole-in 𝓤 H A W T.the-row noTasks l₃ 0) $
+        move ! (23 ∷ 0 ∷ []) $ use2 W (‵ (arr-parts (shares T.the-row) 8 .part fullShare noTasks l₃ 0)) (to-table 𝓤 H A W noTasks l₃ w₀) $ fsplit ! $ drop ! $ use1 W (‵ (cells (inMem T.the-row) noTasks l₃ 0)) (whole-in 𝓤 H A W T.the-row noTasks l₃ 0) $
         -- [the table; _14; …; dies _3; _2; _1; _0; the token; what rows owns]: the borrow of the rows is opened, and they are lent as a `&[u64]`
         move ! (30 ∷ []) $ split ! $ move ! (1 ∷ []) $ drop ! $ move ! (31 ∷ []) $ fsplit ! $ move ! (1 ∷ []) $ drop ! $ fsplit ! $ drop ! $ fsplit ! $
         opens-slice ! tt u64 ys b o $ feqI ! ℕ (length ys) (length ys) refl $ fjoin ! $
@@ -181,7 +181,7 @@ module _ {M : Type 1} (𝓤 : URA M) (H : Heap 𝓤) (A : Atoms 𝓤) (W : Given
         move ! (1 ∷ []) $ split ! $ move ! (1 ∷ []) $ peeks ! usize (Is usize) (shows 𝓤 H A usize) c (w₂ ∷ []) (λ is₂. drop ! $
         land ! (from ! (stop !)) (init ! 11 refl (uint-lawful 𝓤 H A W w64 .typed c _ is₂ .0)) $
         -- the lifetime is ended, and the local is room again
-        split ! $ move ! (1 ∷ []) $ split ! $ move ! (1 ∷ []) $ drop ! $ move ! (1 ∷ []) $ lft-end ! tt $ move ! (0 ∷ 3 ∷ []) $ lent-back ! tt $ fsplit ! $ drop ! $ feqI ! ℕ (length (us .0)) 64 (lz ∙ none-many) $ fjoin ! $ use1 W (‵ (froom table l₃ 0)) (from-table 𝓤 H A W (us .0) l₃) $
+        split ! $ move ! (1 ∷ []) $ split ! $ move ! (1 ∷ []) $ drop ! $ move ! (1 ∷ []) $ lft-end ! tt $ move ! (0 ∷ 3 ∷ []) $ lent-back ! tt $ fsplit ! $ drop ! $ feqI ! ℕ (length (us .0)) 8 (lz ∙ none-many) $ fjoin ! $ use1 W (‵ (froom table l₃ 0)) (from-table 𝓤 H A W (us .0) l₃) $
         assigns ! (of-opd ! (unit-lit !)) (from ! (stop !)) (init ! 30 refl (tt, tt)) $
         returns ! (look ! 30 refl) $ forget ! 3 refl $ forget ! 5 refl $ forget ! 7 refl $ forget ! 9 refl $ forget ! 11 refl $ forget ! 13 refl $ forget ! 15 refl $ forget ! 17 refl $ forget ! 19 refl $ forget ! 21 refl $ forget ! 23 refl $ forget ! 26 refl $ forget ! 28 refl $ forget ! 30 refl $
         move ! (30 ∷ 31 ∷ []) $ free1 ! $ move ! (28 ∷ 29 ∷ []) $ free1 ! $ move ! (26 ∷ 27 ∷ []) $ free1 ! $ move ! (0 ∷ 25 ∷ []) $ free1 ! $ move ! (22 ∷ 23 ∷ []) $ free1 ! $ move ! (20 ∷ 21 ∷ []) $ free1 ! $ move ! (18 ∷ 19 ∷ []) $ free1 ! $ move ! (16 ∷ 17 ∷ []) $ free1 ! $ move ! (14 ∷ 15 ∷ []) $ free1 ! $ move ! (12 ∷ 13 ∷ []) $ free1 ! $ move ! (10 ∷ 11 ∷ []) $ free1 ! $ move ! (8 ∷ 9 ∷ []) $ free1 ! $ move ! (6 ∷ 7 ∷ []) $ free1 ! $ move ! (4 ∷ 5 ∷ []) $ free1 ! $ move ! (2 ∷ 3 ∷ []) $ free1 ! $ free0 ! $

@@ -64,7 +64,7 @@ module _ {M : Type 1} (𝓤 : URA M) (H : Heap 𝓤) (A : Atoms 𝓤) (mem : Mem
   abbrev Width : Contract 𝓤
   Width = tripleOf 𝓤 H A width.signature (width.spec 𝓤 H A mem run)
 
-module _ {M : Type 1} (𝓤 : URA M) (H : Heap 𝓤) (A : Atoms 𝓤) (W : Given 𝓤 H A) (mem : Memory → SProp 𝓤) (run : Routine → Fun 𝓤) (κ κ′ : Lft) (q q′ : Share) (x : RefT (List Task)) (b o : ℕ) (γ : GName) (ys : List ℕ) (m : ℕ) (m-val : Val) (m-is : Is usize m (m-val ∷ [])) (x-room : Room T.the-row (length (x .now))) (room : Room u64 (length ys)) (long : 1856 ≤ length ys) where
+module _ {M : Type 1} (𝓤 : URA M) (H : Heap 𝓤) (A : Atoms 𝓤) (W : Given 𝓤 H A) (mem : Memory → SProp 𝓤) (run : Routine → Fun 𝓤) (κ κ′ : Lft) (q q′ : Share) (x : RefT (List Task)) (b o : ℕ) (γ : GName) (ys : List ℕ) (m : ℕ) (m-val : Val) (m-is : Is usize m (m-val ∷ [])) (x-room : Room T.the-row (length (x .now))) (room : Room u64 (length ys)) (long : min m 64 * 29 ≤ length ys) where
   abbrev κs : Lfts 2
   κs = (κ, (κ′, tt))
 
@@ -94,7 +94,7 @@ module _ {M : Type 1} (𝓤 : URA M) (H : Heap 𝓤) (A : Atoms 𝓤) (W : Given
   abbrev zs : ℕ → List ℕ
   zs i = over (sheetRows (cutTo i ts)) ys
 
-  len : (i : ℕ) → i ≤ 64 → length (zs i) ≡ length ys
+  len : (i : ℕ) → i * 29 ≤ length ys → length (zs i) ≡ length ys
   len i h = over-long (sheetRows (cutTo i ts)) ys (let k = cut-long i ts in omega arith)
 
   row-typed : (t : Task) (u : Val) → Is T.the-row t (u ∷ []) → Holds (hasTy T′.mir u) × WT u
