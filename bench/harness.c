@@ -15,7 +15,7 @@
 int64_t rust_verdict(const uint8_t *, size_t, uint8_t *, size_t);
 int64_t rust_board(const uint8_t *, size_t, const uint8_t *, size_t, uint8_t *, size_t);
 
-enum { LIMIT = 1 << 20, SAMPLES = 40 };
+enum { LIMIT = 1 << 20, SAMPLES = 400 };
 
 static uint8_t plan[LIMIT], events[LIMIT], proved_out[RYEFROST_BOARD_BYTES], rust_out[RYEFROST_BOARD_BYTES];
 static size_t plan_size, events_size;
