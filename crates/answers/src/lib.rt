@@ -1,194 +1,23 @@
 // The answers of a whole plan, in lent slices. What stands where is said in the checker's specs/Store.
 use figures::TaskAnswer;
-use search::Answer;
 use tables::PlanRecord;
 ghost use mathlib.Core.Path.{_≡_};
 ghost use mathlib.Core.Bool.{true, _&&_};
-ghost use Prim.Native.Nat.{ℕ, _+_, _*_, _<_, _≤_};
+ghost use Prim.Native.Nat.{_+_, _*_, _<_, _≤_};
 ghost use lib.ListN.{length};
 ghost use Rattle.laws.specs.Choice.{when};
 ghost use Rattle.laws.specs.Rows.{Is};
 ghost use Rattle.search.specs.Search.{rounds};
-ghost use Rattle.search.specs.Row.{rowIn, pushed};
+ghost use Rattle.search.specs.Row.{pushed};
 ghost use Rattle.model.specs.Lookup.{global};
 ghost use Rattle.tables.specs.Layout.{cell, over, lockRow, taskRow};
 ghost use Rattle.figures.specs.Tabled.{Fit, systemIn};
 ghost use Rattle.figures.specs.Answers.{waitAnswer, ticksOf, isLate, remoteWaits, lacksWait};
-ghost use Rattle.stored.specs.Stored.{TasksIn, BlockingsIn, VcpusIn, ResponsesIn, Held as HeldAt, Stored};
+ghost use Rattle.checker.specs.Stored.{TasksIn, BlockingsIn, Held as HeldAt, Stored};
 ghost use Rattle.checker.specs.Store.{vcpuAnswers, waitAnswers, taskAnswers};
 ghost use Rattle.tasktimes.specs.Waits.{WaitsIn};
-ghost use Rattle.answers.specs.Filled.{answerKind, answerRow, taskKind, taskTicks, taskRounds, taskAnswerRow, isSection, placeAt, Places};
-
-// What an answer is: 0 late, 1 fits.
-fn kind_of(a: Answer) -> u64
-    ensures { λ x. ⌜ x ≡ answerKind a ⌝ }
-{
-    match a {
-        Answer::Fits { w, rounds } => 1,
-        Answer::Late { rounds } => 0,
-    }
-}
-
-// The window of an answer, 0 where it is lacking.
-fn ticks_of(a: Answer) -> u64
-    ensures { λ x. ⌜ x ≡ ticksOf a ⌝ }
-{
-    match a {
-        Answer::Fits { w, rounds } => w,
-        Answer::Late { rounds } => 0,
-    }
-}
-
-// The rounds of an answer.
-fn rounds_of(a: Answer) -> u64
-    ensures { λ x. ⌜ x ≡ rounds a ⌝ }
-{
-    match a {
-        Answer::Fits { w, rounds } => rounds,
-        Answer::Late { rounds } => rounds,
-    }
-}
-
-// Writes answer n.
-fn put_answer(xs: &mut [u64], n: usize, a: Answer)
-    requires { ⌜ n * 3 + 3 ≤ length (now xs) ⌝ }
-    ensures { λ out. ⌜ now (xs .exit) ≡ pushed (now (xs .entry)) n (answerRow a) ⌝ }
-{
-    let x = kind_of(a);
-    let y = ticks_of(a);
-    let z = rounds_of(a);
-    search::push_row(xs, n, x, y, z);
-}
-
-// Fills the answers of the VCPUs.
-fn fill_vcpus(
-    r: PlanRecord,
-    vt: &[u64],
-    mt: &[u64],
-    ts: &[u64],
-    tf: &[u64],
-    vf: &[u64],
-    rows: &mut [u64],
-    va: &mut [u64],
-)
-    requires { ⌜ Fit r (now vt) (now mt) (now ts) × TasksIn r (now vt) (now mt) (now ts) (now tf) × VcpusIn r (now vt) (now mt) (now ts) (now vf) × (240 ≤ length (now rows)) × (48 ≤ length (now va)) ⌝ }
-    ensures { λ out. ⌜ now (va .exit) ≡ over (vcpuAnswers (systemIn r (now (vt .entry)) (now (mt .entry)) (now (ts .entry)))) (now (va .entry)) ⌝ }
-{
-    let n = r.vcpus;
-    let mut a = 0;
-    while a < n {
-        let x = times::vcpu_answer(r, vt, mt, ts, tf, vf, rows, a);
-        put_answer(va, a, x);
-        a += 1;
-    }
-}
-
-// Is lock j of task i a global section?
-fn is_section(r: PlanRecord, vt: &[u64], mt: &[u64], ts: &[u64], i: usize, j: usize) -> bool
-    requires { ⌜ Fit r (now vt) (now mt) (now ts) × (i < r .tasks) × (j < 8) ⌝ }
-    ensures { λ x. ⌜ x ≡ isSection (systemIn r (now (vt .entry)) (now (mt .entry)) (now (ts .entry))) (now (ts .entry)) i j ⌝ }
-{
-    let m = cells::lock_cell(r, vt, mt, ts, i, j, 0);
-    (j < cells::lock_count(r, vt, mt, ts, i)) & cells::is_global(r, vt, mt, ts, m)
-}
-
-// The answer of the wait of task i at its lock j, a global section.
-fn wait_at(
-    r: PlanRecord,
-    vt: &[u64],
-    mt: &[u64],
-    ts: &[u64],
-    rf: &[u64],
-    rows: &mut [u64],
-    i: usize,
-    j: usize,
-) -> Answer
-    requires { ⌜ Fit r (now vt) (now mt) (now ts) × ResponsesIn r (now vt) (now mt) (now ts) (now rf) × (r .tasks * 8 ≤ length (now rf)) × (i < r .tasks) × (j < 8) × (global (systemIn r (now vt) (now mt) (now ts) .mutexes) (lockRow (now ts) i j .m) ≡ true) × (240 ≤ length (now rows)) ⌝ }
-    ensures { λ x. ⌜ x ≡ waitAnswer (systemIn r (now (vt .entry)) (now (mt .entry)) (now (ts .entry))) (taskRow (now (ts .entry)) i) (lockRow (now (ts .entry)) i j) ⌝ }
-{
-    let v = cells::task_cell(r, vt, mt, ts, i, 0);
-    let limit = cells::task_cell(r, vt, mt, ts, i, 2);
-    let m = cells::lock_cell(r, vt, mt, ts, i, j, 0);
-    times::wait_answer(r, vt, mt, ts, rf, rows, v, m, limit)
-}
-
-// The place of a lock of task i on the mutex of its lock j: an earlier one where there is one.
-fn same_before(r: PlanRecord, vt: &[u64], mt: &[u64], ts: &[u64], i: usize, j: usize) -> usize
-    requires { ⌜ Fit r (now vt) (now mt) (now ts) × (i < r .tasks) × (j < 8) ⌝ }
-    ensures { λ x. ⌜ (x ≤ j) × (lockRow (now (ts .entry)) i x .m ≡ lockRow (now (ts .entry)) i j .m) ⌝ }
-{
-    let m = cells::lock_cell(r, vt, mt, ts, i, j, 0);
-    let mut e = 0;
-    while e < j {
-        let x = cells::lock_cell(r, vt, mt, ts, i, e, 0);
-        if x == m {
-            return e;
-        }
-        e += 1;
-    }
-    j
-}
-
-// Writes answer n: the same as answer e.
-fn copy_answer(xs: &mut [u64], e: usize, n: usize)
-    requires { ⌜ (e * 3 + 3 ≤ length (now xs)) × (n * 3 + 3 ≤ length (now xs)) ⌝ }
-    ensures { λ out. ⌜ now (xs .exit) ≡ pushed (now (xs .entry)) n (rowIn (now (xs .entry)) e) ⌝ }
-{
-    let x = xs[e * 3];
-    let y = xs[e * 3 + 1];
-    let z = xs[e * 3 + 2];
-    search::push_row(xs, n, x, y, z);
-}
-
-// Writes the answer of place k; waits of one task on one mutex are searched once.
-fn put_wait(
-    r: PlanRecord,
-    vt: &[u64],
-    mt: &[u64],
-    ts: &[u64],
-    rf: &[u64],
-    rows: &mut [u64],
-    wa: &mut [u64],
-    k: usize,
-)
-    requires { ⌜ Fit r (now vt) (now mt) (now ts) × ResponsesIn r (now vt) (now mt) (now ts) (now rf) × (r .tasks * 8 ≤ length (now rf)) × (k < r .tasks * 8) × (240 ≤ length (now rows)) × (r .tasks * 24 ≤ length (now wa)) × ((q : ℕ) → q < k → rowIn (now wa) q ≡ placeAt (systemIn r (now vt) (now mt) (now ts)) (now ts) q) ⌝ }
-    ensures { λ out. ⌜ now (wa .exit) ≡ pushed (now (wa .entry)) k (placeAt (systemIn r (now (vt .entry)) (now (mt .entry)) (now (ts .entry))) (now (ts .entry)) k) ⌝ }
-{
-    let i = k / 8;
-    let j = k % 8;
-    if !is_section(r, vt, mt, ts, i, j) {
-        search::push_row(wa, k, 0, 0, 0);
-        return;
-    }
-    let e = same_before(r, vt, mt, ts, i, j);
-    if e < j {
-        copy_answer(wa, i * 8 + e, k);
-        return;
-    }
-    let a = wait_at(r, vt, mt, ts, rf, rows, i, j);
-    put_answer(wa, k, a);
-}
-
-// Fills the answers of the waits.
-fn fill_waits(
-    r: PlanRecord,
-    vt: &[u64],
-    mt: &[u64],
-    ts: &[u64],
-    rf: &[u64],
-    rows: &mut [u64],
-    wa: &mut [u64],
-)
-    requires { ⌜ Fit r (now vt) (now mt) (now ts) × ResponsesIn r (now vt) (now mt) (now ts) (now rf) × (r .tasks * 8 ≤ length (now rf)) × (240 ≤ length (now rows)) × (r .tasks * 24 ≤ length (now wa)) ⌝ }
-    ensures { λ out. ⌜ (now (wa .exit) ≡ over (waitAnswers (systemIn r (now (vt .entry)) (now (mt .entry)) (now (ts .entry)))) (now (wa .entry))) × Places (systemIn r (now (vt .entry)) (now (mt .entry)) (now (ts .entry))) (now (ts .entry)) (r .tasks * 8) (now (wa .exit)) ⌝ }
-{
-    let n = r.tasks * 8;
-    let mut k = 0;
-    while k < n {
-        put_wait(r, vt, mt, ts, rf, rows, wa, k);
-        k += 1;
-    }
-}
+ghost use Rattle.told.specs.Read.{AnswersIn};
+ghost use Rattle.checker.specs.Filled.{taskKind, taskTicks, taskRounds, taskAnswerRow, Places};
 
 // The remote wait of task i at its lock j, 0 where it is late or the lock is no global section.
 fn wait_ticks(
@@ -295,7 +124,7 @@ fn task_kind(a: TaskAnswer) -> u64
     ensures { λ x. ⌜ x ≡ taskKind a ⌝ }
 {
     match a {
-        TaskAnswer::Searched(b) => kind_of(b),
+        TaskAnswer::Searched(b) => waits::kind_of(b),
         TaskAnswer::NoWait => 2,
         TaskAnswer::Held => 3,
     }
@@ -306,7 +135,7 @@ fn task_ticks(a: TaskAnswer) -> u64
     ensures { λ x. ⌜ x ≡ taskTicks a ⌝ }
 {
     match a {
-        TaskAnswer::Searched(b) => ticks_of(b),
+        TaskAnswer::Searched(b) => waits::ticks_of(b),
         TaskAnswer::NoWait => 0,
         TaskAnswer::Held => 0,
     }
@@ -317,7 +146,7 @@ fn task_rounds(a: TaskAnswer) -> u64
     ensures { λ x. ⌜ x ≡ taskRounds a ⌝ }
 {
     match a {
-        TaskAnswer::Searched(b) => rounds_of(b),
+        TaskAnswer::Searched(b) => waits::rounds_of(b),
         TaskAnswer::NoWait => 0,
         TaskAnswer::Held => 0,
     }
@@ -358,7 +187,7 @@ fn fill_tasks(
     }
 }
 
-// Fills every answer of the plan in the tables; rows, ws and fs are scratch.
+// Fills every answer of the plan in the tables, whose figures are stored; rows, ws and fs are scratch.
 pub fn answers(
     r: PlanRecord,
     vt: &[u64],
@@ -378,9 +207,46 @@ pub fn answers(
     requires { ⌜ (240 ≤ length (now rows)) × (64 ≤ length (now ws)) × (64 ≤ length (now fs)) × (48 ≤ length (now va)) × (r .tasks * 24 ≤ length (now wa)) × (r .tasks * 3 ≤ length (now ta)) ⌝ }
     ensures { λ out. ⌜ (now (va .exit) ≡ over (vcpuAnswers (systemIn r (now (vt .entry)) (now (mt .entry)) (now (ts .entry)))) (now (va .entry))) × (now (wa .exit) ≡ over (waitAnswers (systemIn r (now (vt .entry)) (now (mt .entry)) (now (ts .entry)))) (now (wa .entry))) × (now (ta .exit) ≡ over (taskAnswers (systemIn r (now (vt .entry)) (now (mt .entry)) (now (ts .entry)))) (now (ta .entry))) ⌝ }
 {
-    fill_vcpus(r, vt, mt, ts, tf, vf, rows, va);
-    fill_waits(r, vt, mt, ts, rf, rows, wa);
+    waits::fill_vcpus(r, vt, mt, ts, tf, vf, rows, va);
+    waits::fill_waits(r, vt, mt, ts, rf, rows, wa);
     fill_sums(r, vt, mt, ts, wa, ws);
     fill_flags(r, vt, mt, ts, wa, fs);
     fill_tasks(r, vt, mt, ts, tf, ws, fs, rows, ta);
+}
+
+// Fills every answer of the plan in the tables; tf and rf are scratch.
+pub fn fill_answers(
+    r: PlanRecord,
+    vt: &[u64],
+    mt: &[u64],
+    ts: &[u64],
+    tf: &mut [u64],
+    rf: &mut [u64],
+    va: &mut [u64],
+    wa: &mut [u64],
+    ta: &mut [u64],
+)
+    requires { ⌜ Fit r (now vt) (now mt) (now ts) × (r .tasks * 5 ≤ length (now tf)) × (r .tasks * 8 ≤ length (now rf)) × (48 ≤ length (now va)) × (r .tasks * 24 ≤ length (now wa)) × (r .tasks * 3 ≤ length (now ta)) ⌝ }
+    ensures { λ _. ⌜ AnswersIn r (now (vt .entry)) (now (mt .entry)) (now (ts .entry)) (now (va .exit)) (now (wa .exit)) (now (ta .exit)) ⌝ }
+{
+    let mut vf = [0u64; 48];
+    let mut rows = [0u64; 240];
+    let mut ws = [0u64; 64];
+    let mut fs = [0u64; 64];
+    stored::stored(r, vt, mt, ts, tf, &mut vf, rf);
+    answers(
+        r,
+        vt,
+        mt,
+        ts,
+        tf,
+        &vf,
+        rf,
+        &mut rows,
+        &mut ws,
+        &mut fs,
+        va,
+        wa,
+        ta,
+    );
 }

@@ -1,2 +1,9 @@
 pub mod Store
 pub mod FitLaws
+pub mod Filled
+pub mod FilledLaws
+pub mod Places
+pub mod Stored
+pub mod StoredLaws
+pub mod Costs
+pub mod CostLaws

@@ -16,9 +16,9 @@ use Rattle.tables.specs.Given.{isGiven}
 use Rattle.coded.specs.Coded.{start}
 use Rattle.tallies.specs.Tally.{blank}
 use Rattle.filler.specs.Fill.{vcpuPut, mutexPut, openPut, taskPut}
-use Rattle.reader.specs.declared.PlanAnswer.{PlanAnswer}
-use Rattle.reader.specs.Into.{planAnswer, tablesAfter}
-use Rattle.reader.specs.Judged.{judgedFrom, linesLeft}
+use Rattle.plans.specs.declared.PlanAnswer.{PlanAnswer}
+use Rattle.plans.specs.Into.{planAnswer, tablesAfter}
+use Rattle.plans.specs.Judged.{judgedFrom, linesLeft}
 use Rattle.scan.specs.declared.Line.{Line}
 use Rattle.scan.specs.declared.LineReader.{LineReader}
 use Rattle.scan.specs.declared.Step.{Step}
@@ -43,7 +43,7 @@ use Rattle.rooms.specs.Boarded.{answersOn}
 use Rattle.boards.specs.declared.FreshBoard.{FreshBoard}
 use Rattle.boards.specs.Entered.{freshFor, stepFor}
 use Rattle.records.specs.declared.Task.{Task}
-use Rattle.records.specs.ReadLaws.{ReadOut}
+use Rattle.intake.specs.ReadLaws.{ReadOut}
 use Rattle.sheets.specs.declared.Question.{Question}
 use Rattle.sheets.specs.declared.Replied.{Replied}
 use Rattle.sheets.specs.Replies.{replyTo}

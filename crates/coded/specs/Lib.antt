@@ -3,3 +3,4 @@ pub mod Same
 pub mod TableLaws
 pub mod SameLaws
 pub mod Agrees
+pub mod KindLaws

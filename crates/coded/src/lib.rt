@@ -1,5 +1,9 @@
 // What a judge of a plan's items has seen, by value: numbers by place where the rules of the model keep rows. What is wrong with an item after it stands in specs/Coded;
 // that this agrees with the rules of the model, in specs/Agrees.
+use model::within;
+ghost use mathlib.Core.Path.{_≡_};
+ghost use Rattle.coded.specs.Coded as coded;
+
 // The limits of document 01 (specs/Limits of the model): v 1 to 16.
 pub const MAX_V: u64 = 16;
 
@@ -74,4 +78,22 @@ pub struct Seen {
     // The tasks of the plan, and the locks of the last task.
     pub tasks: u64,
     pub locks: u64,
+}
+
+// Are both in range, from 1 on?
+pub fn ranged(x: u64, hi: u64, y: u64, top: u64) -> bool
+    ensures { λ r. ⌜ r ≡ coded.ranged x hi y top ⌝ }
+{
+    within(x, 1, hi) & within(y, 1, top)
+}
+
+// Where the openings have m and guest; past their end for what is none.
+pub fn slot(m: u64, guest: u64) -> u64
+    ensures { λ r. ⌜ r ≡ coded.slot m guest ⌝ }
+{
+    if ranged(m, MAX_M, guest, MAX_GUEST) {
+        (m - 1) * MAX_GUEST + (guest - 1)
+    } else {
+        NOWHERE
+    }
 }

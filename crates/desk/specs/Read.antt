@@ -16,15 +16,15 @@ use Rattle.tables.specs.Layout.{Tables, recordOf}
 use Rattle.tables.specs.Given.{Gives, planIn, isGiven, roomy}
 use Rattle.tables.specs.GivenLaws.{plan-given}
 use Rattle.tallies.specs.Tally as tallies
-use Rattle.reader.specs.declared.PlanAnswer.{PlanAnswer}
-use Rattle.reader.specs.declared.PlanAnswer.the-variants.{Accepted, Refused}
-use Rattle.reader.specs.Into.{answerInto, planAnswer, tablesAfter}
-use Rattle.reader.specs.Judged.{isAccepted}
-use Rattle.reader.specs.Claims.{accepted-gives, accepted-given}
+use Rattle.plans.specs.declared.PlanAnswer.{PlanAnswer}
+use Rattle.plans.specs.declared.PlanAnswer.the-variants.{Accepted, Refused}
+use Rattle.plans.specs.Into.{answerInto, planAnswer, tablesAfter}
+use Rattle.plans.specs.Judged.{isAccepted}
+use Rattle.plans.specs.Claims.{accepted-gives, accepted-given}
 use Rattle.figures.specs.System.{system}
 use Rattle.figures.specs.Tabled.{systemIn, Fit}
 use Rattle.checker.specs.FitLaws.{given-fit, system-in}
-use Rattle.reader.specs.Ample.{Ample, ample-roomy}
+use Rattle.plans.specs.Ample.{Ample, ample-roomy}
 
 -- AN ANSWER TAKEN APART
 abbrev pub recordIn : PlanAnswer → PlanRecord

@@ -15,11 +15,11 @@ use Rattle.tables.specs.declared.PlanRecord.{PlanRecord}
 use Rattle.tables.specs.Layout.{Tables}
 use Rattle.tables.specs.Given.{planIn, isGiven}
 use Rattle.filler.specs.Fill.{vcpuPut, mutexPut, openPut, taskPut}
-use Rattle.reader.specs.declared.PlanAnswer.{PlanAnswer}
-use Rattle.reader.specs.declared.PlanAnswer.the-variants.{Accepted, Refused}
-use Rattle.reader.specs.Into.{planAnswer, tablesAfter}
-use Rattle.reader.specs.Judged.{isAccepted, linesLeft}
-use Rattle.reader.specs.Ample.{Ample, accepted-left}
+use Rattle.plans.specs.declared.PlanAnswer.{PlanAnswer}
+use Rattle.plans.specs.declared.PlanAnswer.the-variants.{Accepted, Refused}
+use Rattle.plans.specs.Into.{planAnswer, tablesAfter}
+use Rattle.plans.specs.Judged.{isAccepted, linesLeft}
+use Rattle.plans.specs.Ample.{Ample, accepted-left}
 use Rattle.figures.specs.System.{system}
 use Rattle.figures.specs.Tabled.{systemIn}
 use Rattle.listing.specs.Listing.{listing, refusedLine, readText, verdictText}

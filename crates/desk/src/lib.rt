@@ -1,29 +1,21 @@
 // The faces that strangers call: from any bytes to the bytes that a program prints.
-use lockboard::Board;
-use model::OverrunChoice;
-use model::Policy;
 use model::Refusal;
-use reader::PlanAnswer;
+use plans::PlanAnswer;
 use tables::PlanRecord;
 use writers::TextAnswer;
 ghost use mathlib.Core.Path.{_≡_};
 ghost use mathlib.Core.Bool.{true};
-ghost use Prim.Native.Nat.{_*_, _≤_};
+ghost use Prim.Native.Nat.{_≤_};
 ghost use lib.ListN.{length};
 ghost use Rattle.model.specs.Reading.{reading};
-ghost use Rattle.tables.specs.Given.{planIn, isGiven};
-ghost use Rattle.figures.specs.System.{system};
+ghost use Rattle.tables.specs.Given.{isGiven};
 ghost use Rattle.listing.specs.Listing.{refusedLine, verdictText};
-ghost use Rattle.lockboard.specs.Facts.{factsOf};
-ghost use Rattle.lockboard.specs.View.{factsIn};
 ghost use Rattle.lockboard.specs.Events.{boardText};
 ghost use Rattle.letters.specs.Wrote.{Wrote};
 ghost use Rattle.writers.specs.Into.{textAnswer, textAfter, bytesIn};
-ghost use Rattle.writers.specs.IntoLaws.{RoomFor};
 ghost use Rattle.desk.specs.Read.{recordIn, refusalIn, lineIn};
 ghost use Rattle.desk.specs.Told.{Sure, toldIn, toldOr, textFor};
 ghost use Rattle.rooms.specs.Whole.{verdictBytes, boardBytes, Counted};
-ghost use Rattle.rooms.specs.Boarded.{answersOn, answersFor};
 
 // The record of an accepted plan; of a refused one a record without rows.
 fn record_in(a: PlanAnswer) -> PlanRecord
@@ -67,67 +59,6 @@ fn refusal_text(x: Refusal, l: u64, out: &mut [u8]) -> TextAnswer
     TextAnswer::Written(n)
 }
 
-// Do the answers to the events of src fit into the buffer? It stays as it was lent.
-fn answers_fit(
-    b: Board,
-    policy: Policy,
-    choice: OverrunChoice,
-    view: &[u64],
-    src: &[u8],
-    out: &mut [u8],
-) -> bool
-    requires { ⌜ (length (now src) ≤ 65536) × (length (answersOn (factsIn policy choice (now view)) b (now src)) ≤ 10 * length (now src)) ⌝ }
-    ensures { λ x. ⌜ RoomFor (answersOn (factsIn policy choice (now (view .entry))) b (now (src .entry))) (length (now (out .entry))) x ⌝ }
-    ensures { λ x. ⌜ now (out .exit) ≡ now (out .entry) ⌝ }
-{
-    if 10 * src.len() <= out.len() {
-        return true;
-    }
-    events::answers(false, b, policy, choice, view, src, out) <= out.len()
-}
-
-// Writes the answers to the events of src from board b on; with too little room 8, and the buffer as it was lent.
-fn answers_from(
-    b: Board,
-    policy: Policy,
-    choice: OverrunChoice,
-    view: &[u64],
-    src: &[u8],
-    out: &mut [u8],
-) -> TextAnswer
-    requires { ⌜ (length (now src) ≤ 65536) × (length (answersOn (factsIn policy choice (now view)) b (now src)) ≤ 10 * length (now src)) ⌝ }
-    ensures { λ a. ⌜ a ≡ textAnswer (answersOn (factsIn policy choice (now (view .entry))) b (now (src .entry))) (now (out .entry)) ⌝ }
-    ensures { λ a. ⌜ now (out .exit) ≡ textAfter (answersOn (factsIn policy choice (now (view .entry))) b (now (src .entry))) (now (out .entry)) ⌝ }
-{
-    if answers_fit(b, policy, choice, view, src, out) {
-        let n = events::answers(true, b, policy, choice, view, src, out);
-        return TextAnswer::Written(n);
-    }
-    TextAnswer::Refused(Refusal::Room)
-}
-
-// Writes the answers to the events of src for the plan in tables that passed the test for 9.
-fn answers_into(
-    r: PlanRecord,
-    vt: &[u64],
-    mt: &[u64],
-    ot: &[u64],
-    ts: &[u64],
-    src: &[u8],
-    out: &mut [u8],
-) -> TextAnswer
-    requires { ⌜ (isGiven r (record { vcpus = now vt; mutexes = now mt; opens = now ot; tasks = now ts }) ≡ true) × (length (now src) ≤ 65536) ⌝ }
-    ensures { λ a. ⌜ a ≡ textAnswer (answersFor (factsOf (system (planIn r (record { vcpus = now (vt .entry); mutexes = now (mt .entry); opens = now (ot .entry); tasks = now (ts .entry) })))) (now (src .entry))) (now (out .entry)) ⌝ }
-    ensures { λ a. ⌜ now (out .exit) ≡ textAfter (answersFor (factsOf (system (planIn r (record { vcpus = now (vt .entry); mutexes = now (mt .entry); opens = now (ot .entry); tasks = now (ts .entry) })))) (now (src .entry))) (now (out .entry)) ⌝ }
-{
-    let mut view = [0u64; 4320];
-    views::fill_view(r, vt, mt, ts, &mut view);
-    let b = Board::fresh(&view);
-    let policy = r.policy;
-    let choice = r.overrun;
-    answers_from(b, policy, choice, &view, src, out)
-}
-
 // Writes, for the plan in tables that passed the test for 9, the answers to the events of src where `on`, else its listing.
 fn text_into(
     on: bool,
@@ -144,7 +75,7 @@ fn text_into(
     ensures { λ a. ⌜ now (out .exit) ≡ textAfter (toldIn on r (record { vcpus = now (vt .entry); mutexes = now (mt .entry); opens = now (ot .entry); tasks = now (ts .entry) }) (now (src .entry))) (now (out .entry)) ⌝ }
 {
     if on {
-        return answers_into(r, vt, mt, ot, ts, src, out);
+        return logs::answers_into(r, vt, mt, ot, ts, src, out);
     }
     lister::listing_into(r, vt, mt, ts, out)
 }
@@ -164,7 +95,7 @@ fn text_or(
     ensures { λ x. ⌜ x ≡ textAnswer (toldOr on a (record { vcpus = now (vt .entry); mutexes = now (mt .entry); opens = now (ot .entry); tasks = now (ts .entry) }) (now (src .entry))) (now (out .entry)) ⌝ }
     ensures { λ x. ⌜ now (out .exit) ≡ textAfter (toldOr on a (record { vcpus = now (vt .entry); mutexes = now (mt .entry); opens = now (ot .entry); tasks = now (ts .entry) }) (now (src .entry))) (now (out .entry)) ⌝ }
 {
-    if reader::is_accepted(a) {
+    if plans::is_accepted(a) {
         let r = record_in(a);
         return text_into(on, r, vt, mt, ot, ts, src, out);
     }
@@ -183,7 +114,7 @@ fn text_of(on: bool, plan: &[u8], src: &[u8], out: &mut [u8]) -> TextAnswer
     let mut mt = [0u64; 64];
     let mut ot = [0u64; 256];
     let mut ts = [0u64; 1856];
-    let a = records::read_rows(plan, &mut vt, &mut mt, &mut ot, &mut ts);
+    let a = intake::read_rows(plan, &mut vt, &mut mt, &mut ot, &mut ts);
     text_or(on, a, &vt, &mt, &ot, &ts, src, out)
 }
 

@@ -26,7 +26,7 @@ use Rattle.figures.specs.Named.{noLock, hasTask, taskAt, lockAt, hasSection}
 use Rattle.figures.specs.declared.TaskAnswer.{TaskAnswer}
 use Rattle.figures.specs.Answers.{vcpuAnswer, waitAnswer, taskAnswer}
 use Rattle.found.specs.First.{VcpuFirst, TaskFirst, vcpu-test, vcpu-is, task-test, task-is}
-use Rattle.stored.specs.Stored.{sectionResponse, Responses}
+use Rattle.checker.specs.Stored.{sectionResponse, Responses}
 use Rattle.checker.specs.FitLaws.{system-in}
 use Rattle.entries.specs.Asked.{Row, NoRow, TaskRow, NoTaskRow, Figure, NoFigure, hasPlace, vcpuRowOf, waitRowOf, taskRowOf, responseRowOf}
 

@@ -73,7 +73,7 @@ fn wait_answer(r: PlanRecord, vt: &[u64], mt: &[u64], ts: &[u64], k: usize, i: u
     let v = cells::task_cell(r, vt, mt, ts, k, 0);
     let limit = cells::task_cell(r, vt, mt, ts, k, 2);
     let m = cells::lock_cell(r, vt, mt, ts, k, (i - 1) as usize, 0);
-    times::wait_answer(r, vt, mt, ts, &rf, &mut rows, v, m, limit)
+    waittimes::wait_answer(r, vt, mt, ts, &rf, &mut rows, v, m, limit)
 }
 
 // The response of task k at its place i, a global section.
@@ -98,7 +98,7 @@ fn task_answer(r: PlanRecord, vt: &[u64], mt: &[u64], ts: &[u64], k: usize) -> T
     let mut va = [0u64; 48];
     let mut wa = [0u64; 1536];
     let mut ta = [0u64; 192];
-    told::fill_answers(r, vt, mt, ts, &mut tf, &mut rf, &mut va, &mut wa, &mut ta);
+    answers::fill_answers(r, vt, mt, ts, &mut tf, &mut rf, &mut va, &mut wa, &mut ta);
     told::task_answer_at(&ta, k)
 }
 

@@ -2,13 +2,15 @@
 use model::OverrunChoice;
 use tables::PlanRecord;
 ghost use mathlib.Core.Path.{_≡_};
+ghost use mathlib.Core.Bool.{true};
 ghost use Prim.Native.Nat.{_<_};
 ghost use lib.Dec.{eqb};
 ghost use Rattle.laws.specs.Choice.{when};
-ghost use Rattle.laws.specs.Rows.{Is};
+ghost use Rattle.laws.specs.Rows.{rows, Is};
+ghost use Rattle.model.specs.Lookup.{hasVcpu};
 ghost use Rattle.tables.specs.Layout.{vcpuRow, taskRow};
 ghost use Rattle.figures.specs.Tabled.{Fit, systemIn};
-ghost use Rattle.figures.specs.Figures.{longestGlobal, ght, higherOn, higherTask, overrunBy};
+ghost use Rattle.figures.specs.Figures.{vcpuAt, longestGlobal, ght, higherOn, higherTask, overrunBy};
 ghost use Rattle.found.specs.First.{VcpuFirst, TaskFirst};
 
 // The first row of VCPU v, or at least the number of rows.
@@ -26,6 +28,14 @@ pub fn vcpu_row(r: PlanRecord, vt: &[u64], mt: &[u64], ts: &[u64], v: u64) -> us
         a += 1;
     }
     a
+}
+
+// The row of VCPU v, which the plan has.
+pub fn vcpu_of(r: PlanRecord, vt: &[u64], mt: &[u64], ts: &[u64], v: u64) -> usize
+    requires { ⌜ Fit r (now vt) (now mt) (now ts) × (hasVcpu (rows (r .vcpus) (vcpuRow (now vt))) v ≡ true) ⌝ }
+    ensures { λ x. ⌜ (x < r .vcpus) × (vcpuAt (systemIn r (now (vt .entry)) (now (mt .entry)) (now (ts .entry))) v ≡ vcpuRow (now (vt .entry)) x) ⌝ }
+{
+    vcpu_row(r, vt, mt, ts, v)
 }
 
 // The first row of task (v, n), or at least the number of rows.

@@ -1,12 +1,12 @@
 // The test for 9: do tables hold what some accepted plan gives? (specs/Given of the tables; specs/Tests has its tests one by one.)
 use coded::Seen;
 use judge::fault_of;
-use judge::ready;
-use judge::seen_after;
-use judge::start;
 use model::Kind;
 use model::OverrunChoice;
 use model::Policy;
+use seen::ready;
+use seen::seen_after;
+use seen::start;
 use tables::PlanRecord;
 use tidies::FIRST_LOCK;
 use tidies::LOCK_WIDTH;

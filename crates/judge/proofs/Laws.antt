@@ -11,25 +11,17 @@ use lib.Dec.{leb, ltb}
 use lib.ListN.{getD}
 use Rattle.model.specs.declared.Refusal.the-variants.{Shape, Number, Range, Order, Missing, Outside, TooMany}
 use Rattle.model.specs.Refusals.{unless}
-use Rattle.model.specs.Rules.{phase, within, follows, vcpuFits}
+use Rattle.model.specs.Rules.{within, follows, vcpuFits}
 use Rattle.model.specs.Reading.{fault}
 use Rattle.coded.specs.declared.Seen.{Seen}
-use Rattle.coded.specs.Coded.{ranged, reached, vcpuFault, lockFault, ruled, seenBy, coded}
+use Rattle.coded.specs.KindLaws.{told}
+use Rattle.coded.specs.Coded.{ranged, reached, vcpuFault, lockFault, ruled, coded}
 use Rattle.model.specs.Line.{numsOf}
 
-pub told : {A : Type 0} (f : Kind → A) {k q : Kind} {r : A} → k ≡ q → r ≡ f q → r ≡ f k
-told f e h = rw e h
-
--- the same of what is wrong with a line
+-- what is wrong with a line
 pub rule-told :
     (t : Seen) (a b c d e : ℕ) {k q : Kind} {r : Fault} → k ≡ q → r ≡ ruled t q (numsOf q a b c d e) → r ≡ ruled t k (numsOf k a b c d e)
 rule-told t a b c d e g h = told (λ x. ruled t x (numsOf x a b c d e)) g h
-
--- the same of what is seen after a line
-pub seen-told :
-    (t : Seen) (a b c d e : ℕ) {p : ℕ} {k q : Kind} {r : Seen} → p ≡ phase k → k ≡ q → r ≡ seenBy p t q (numsOf q a b c d e) →
-    r ≡ seenBy (phase k) t k (numsOf k a b c d e)
-seen-told t a b c d e {k = k} f g h = told (λ x. seenBy (phase k) t x (numsOf x a b c d e)) g (rw f at h)
 
 -- the fault of an item, from its parts
 pub fault-told :

@@ -1,5 +1,3 @@
 pub mod Said
 pub mod Code
-pub mod KeyLaws
-pub mod KindLaws
 pub mod SaidLaws

@@ -1,4 +1,2 @@
-pub mod Filled
-pub mod FilledLaws
 pub mod Asked
 pub mod AskedLaws

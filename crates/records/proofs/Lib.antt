@@ -2,4 +2,3 @@ pub mod Kit
 pub mod Lent
 pub mod Face
 pub mod LentTasks
-pub mod Counted

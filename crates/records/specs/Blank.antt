@@ -12,7 +12,7 @@ use Rattle.model.specs.Limits.{maxLocks, maxTasks}
 use Rattle.tables.specs.Layout.{taskWidth, over}
 use Rattle.tables.specs.FlatLaws.{over-rows}
 use Rattle.records.specs.Sheet.{Task, noLock, taskNums, sheetRows, cutTo, taskOf, saved}
-use Rattle.records.specs.ReadLaws.{nums-back}
+use Rattle.records.specs.SaveLaws.{nums-back}
 
 -- a blank record
 abbrev pub blankTask : Task

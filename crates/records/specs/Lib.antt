@@ -2,5 +2,4 @@ pub mod Sheet
 pub mod SheetLaws
 pub mod CutLaws
 pub mod SaveLaws
-pub mod ReadLaws
 pub mod Blank

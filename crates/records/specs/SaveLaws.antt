@@ -1,4 +1,4 @@
--- Laws of the way back: a record that is read, one more that is written, and a plan read into records.
+-- Laws of the way back: a record that is read, and one more that is written.
 use Prim.Native.Nat.{ℕ, suc, _+_, _*_, _≤_, _<_}
 use mathlib.Core.Path.{_≡_, refl, ap, sym, _∙_}
 use mathlib.Core.List.{List, [], _∷_, _++_}
@@ -7,11 +7,12 @@ use native.Mathlib.Numerals.{add-one}
 use native.Mathlib.Omega.{arith}
 use lib.ListN.{length, drop, getD, set, length-append, length-drop, List·getD-append}
 use lib.Seq.{drop-cons, set-at, append-snoc}
+use Rattle.laws.specs.Sums.{flat}
 use Rattle.laws.specs.Rows.{rows}
 use Rattle.laws.specs.RowLaws.{rows-length, rows-same}
 use Rattle.model.specs.Limits.{maxLocks}
 use Rattle.tables.specs.Layout.{taskWidth, lockWidth, firstLock, cell}
-use Rattle.records.specs.Sheet.{Lock, Task, noTask, lockOf, taskOf, saved}
+use Rattle.records.specs.Sheet.{Lock, Task, noTask, locksTo, taskNums, lockOf, taskOf, saved}
 
 -- A RECORD IS READ
 
@@ -45,6 +46,11 @@ task-read t i v n p f k a₀ a₁ a₂ a₃ a₄ a₅ a₆ a₇ e₀ e₁ e₂ e
       count = ek x;
       locks = e₀ x ∷ e₁ x ∷ e₂ x ∷ e₃ x ∷ e₄ x ∷ e₅ x ∷ e₆ x ∷ e₇ x ∷ [];
     }
+
+-- the numbers of a record that is read are the row's
+pub nums-back : (t : List ℕ) (i : ℕ) → taskNums (taskOf t i) ≡ rows taskWidth (λ j. getD t (i * taskWidth + j) 0)
+unfolding taskNums locksTo taskOf lockOf flat rows
+nums-back t i = refl
 
 -- RECORDS ARE WRITTEN
 

@@ -6,9 +6,6 @@ use Rattle.laws.specs.Sums.{flat}
 use Rattle.laws.specs.Rows.{rows}
 use Rattle.model.specs.Limits.{maxLocks, maxTasks}
 use Rattle.tables.specs.Layout.{Tables, taskWidth, lockWidth, firstLock, cell}
-use Rattle.reader.specs.declared.PlanAnswer.{PlanAnswer}
-use Rattle.reader.specs.declared.PlanAnswer.the-variants.{Accepted, Refused}
-use Rattle.reader.specs.Into.{planAnswer, tablesAfter}
 pub use Rattle.records.specs.declared.Lock.{Lock}
 pub use Rattle.records.specs.declared.Task.{Task}
 
@@ -70,17 +67,6 @@ taskOf t i =
       locks = rows maxLocks (lockOf t i);
     }
 
--- A PLAN IS READ INTO RECORDS
-
 -- the first n rows of a number table as records, over the records that were lent
 unfoldable pub saved : List Task → List ℕ → ℕ → List Task
 saved ks t n = rows n (taskOf t) ++ drop n ks
-
--- how many records an answer writes
-abbrev pub countOf : PlanAnswer → ℕ
-countOf (Accepted r) = r .tasks
-countOf (Refused x l) = 0
-
--- the records after reading these bytes into these tables: the rows of tasks that the plan leaves, and those beyond its count as lent; all as lent where it is refused
-unfoldable pub sheetsAfter : List ℕ → List ℕ → List ℕ → List ℕ → List Task → List Task
-sheetsAfter s vt mt ot ks = saved ks (tablesAfter s (tablesOf vt mt ot ks) .tasks) (countOf (planAnswer s (tablesOf vt mt ot ks)))

@@ -1,17 +1,12 @@
 // The tables with tasks as a lent slice of records: thin functions copy the records out and in, one after the other, and the covered functions over numbers do the work. What a record's numbers are stands in specs/Sheet.
-use reader::PlanAnswer;
 ghost use mathlib.Core.Path.{_≡_};
-ghost use mathlib.Core.List.{[], _∷_, _++_};
+ghost use mathlib.Core.List.{[], _∷_};
 ghost use Prim.Native.Nat.{_+_, _*_, _<_, _≤_, min};
-ghost use lib.ListN.{length, getD, take, drop};
+ghost use lib.ListN.{length, getD};
 ghost use lib.Seq.{sets};
 ghost use Rattle.tables.specs.Layout.{over};
-ghost use Rattle.reader.specs.Into.{planAnswer, tablesAfter};
-ghost use Rattle.filler.specs.Fill.{vcpuPut, mutexPut, openPut, taskPut};
-ghost use Rattle.reader.specs.Judged.{linesLeft};
-ghost use Rattle.reader.specs.Ample.{Ample};
 ghost use Rattle.records.specs.Blank.{noTasks};
-ghost use Rattle.records.specs.Sheet.{noTask, taskNums, sheetRows, cutTo, tablesOf, noRows, lockOf, taskOf, saved, countOf, sheetsAfter};
+ghost use Rattle.records.specs.Sheet.{noTask, taskNums, sheetRows, cutTo, noRows, lockOf, taskOf, saved};
 
 // A lock of a task: its mutex, the ticks under it, the run after it.
 pub struct Lock {
@@ -38,7 +33,7 @@ pub fn no_rows() -> [u64; 1856]
 }
 
 // The least of n and 64.
-fn few(n: usize) -> usize
+pub fn few(n: usize) -> usize
     ensures { λ r. ⌜ r ≡ min n 64 ⌝ }
 {
     if n < 64 { n } else { 64 }
@@ -53,7 +48,7 @@ fn few_of(a: usize, n: usize) -> usize
 }
 
 // How many numbers n records have.
-fn width(n: usize) -> usize
+pub fn width(n: usize) -> usize
     requires { ⌜ n ≤ 64 ⌝ }
     ensures { λ r. ⌜ r ≡ n * 29 ⌝ }
 {
@@ -158,38 +153,8 @@ fn task_of(rows: &[u64], i: usize) -> Task
     }
 }
 
-// How many records an answer writes.
-fn count_of(a: PlanAnswer) -> usize
-    ensures { λ r. ⌜ r ≡ countOf a ⌝ }
-{
-    match a {
-        PlanAnswer::Accepted(r) => r.tasks,
-        PlanAnswer::Refused { number: _, line: _ } => 0,
-    }
-}
-
-// Reads bytes offered as a plan, with room for n records, and no more than 64.
-fn read_in(
-    src: &[u8],
-    vt: &mut [u64],
-    mt: &mut [u64],
-    ot: &mut [u64],
-    rows: &mut [u64],
-    n: usize,
-) -> PlanAnswer
-    requires { ⌜ 1856 ≤ length (now rows) ⌝ }
-    ensures { λ a. ⌜ (a ≡ planAnswer (now (src .entry)) (record { vcpus = now (vt .entry); mutexes = now (mt .entry); opens = now (ot .entry); tasks = take (min n 64 * 29) (now (rows .entry)) }))
-        × ((now (vt .exit) ≡ tablesAfter (now (src .entry)) (record { vcpus = now (vt .entry); mutexes = now (mt .entry); opens = now (ot .entry); tasks = take (min n 64 * 29) (now (rows .entry)) }) .vcpus)
-        × ((now (mt .exit) ≡ tablesAfter (now (src .entry)) (record { vcpus = now (vt .entry); mutexes = now (mt .entry); opens = now (ot .entry); tasks = take (min n 64 * 29) (now (rows .entry)) }) .mutexes)
-        × ((now (ot .exit) ≡ tablesAfter (now (src .entry)) (record { vcpus = now (vt .entry); mutexes = now (mt .entry); opens = now (ot .entry); tasks = take (min n 64 * 29) (now (rows .entry)) }) .opens)
-        × (now (rows .exit) ≡ tablesAfter (now (src .entry)) (record { vcpus = now (vt .entry); mutexes = now (mt .entry); opens = now (ot .entry); tasks = take (min n 64 * 29) (now (rows .entry)) }) .tasks ++ drop (min n 64 * 29) (now (rows .entry)))))) ⌝ }
-{
-    let k = width(few(n));
-    reader::read_plan(src, vt, mt, ot, &mut rows[..k])
-}
-
 // Writes the first n rows of numbers as records.
-fn save(tasks: &mut [Task], rows: &[u64], n: usize)
+pub fn save(tasks: &mut [Task], rows: &[u64], n: usize)
     requires { ⌜ (n ≤ 64) × (n ≤ length (now tasks)) ⌝ }
     ensures { λ a. ⌜ now (tasks .exit) ≡ saved (now (tasks .entry)) (now (rows .entry)) n ⌝ }
 {
@@ -199,27 +164,6 @@ fn save(tasks: &mut [Task], rows: &[u64], n: usize)
         tasks[i] = t;
         i += 1;
     }
-}
-
-// Reads bytes offered as a plan into lent tables. A refusal leaves the tables as they were lent.
-pub fn read_plan(
-    src: &[u8],
-    vt: &mut [u64],
-    mt: &mut [u64],
-    ot: &mut [u64],
-    tasks: &mut [Task],
-) -> PlanAnswer
-    ensures { λ a. ⌜ (a ≡ planAnswer (now (src .entry)) (tablesOf (now (vt .entry)) (now (mt .entry)) (now (ot .entry)) (now (tasks .entry))))
-        × ((now (vt .exit) ≡ tablesAfter (now (src .entry)) (tablesOf (now (vt .entry)) (now (mt .entry)) (now (ot .entry)) (now (tasks .entry))) .vcpus)
-        × ((now (mt .exit) ≡ tablesAfter (now (src .entry)) (tablesOf (now (vt .entry)) (now (mt .entry)) (now (ot .entry)) (now (tasks .entry))) .mutexes)
-        × ((now (ot .exit) ≡ tablesAfter (now (src .entry)) (tablesOf (now (vt .entry)) (now (mt .entry)) (now (ot .entry)) (now (tasks .entry))) .opens)
-        × (now (tasks .exit) ≡ sheetsAfter (now (src .entry)) (now (vt .entry)) (now (mt .entry)) (now (ot .entry)) (now (tasks .entry)))))) ⌝ }
-{
-    let mut rows = no_rows();
-    let a = read_in(src, vt, mt, ot, &mut rows, tasks.len());
-    let n = count_of(a);
-    save(tasks, &rows, n);
-    a
 }
 
 // A table of eight blank records.
@@ -250,7 +194,7 @@ fn kept(rows: &mut [u64], n: usize)
 }
 
 // The same for n rows, eight at a time, so that little is cleared for a small plan.
-fn all_kept(rows: &mut [u64], n: usize)
+pub fn all_kept(rows: &mut [u64], n: usize)
     requires { ⌜ (n ≤ 64) × (n * 29 ≤ length (now rows)) ⌝ }
     ensures { λ r. ⌜ now (rows .exit) ≡ now (rows .entry) ⌝ }
 {
@@ -259,25 +203,4 @@ fn all_kept(rows: &mut [u64], n: usize)
         kept(&mut rows[i * 29..], few_of(8, n - i));
         i += 8;
     }
-}
-
-// Reads bytes offered as a plan into tables of numbers with room for every plan, in one pass, its tasks by way of a table of records. Where the plan is refused, the tables hold the rows of the lines before the first that is refused.
-pub fn read_rows(
-    src: &[u8],
-    vt: &mut [u64],
-    mt: &mut [u64],
-    ot: &mut [u64],
-    rows: &mut [u64],
-) -> PlanAnswer
-    requires { ⌜ Ample (record { vcpus = now vt; mutexes = now mt; opens = now ot; tasks = now rows }) ⌝ }
-    ensures { λ a. ⌜ a ≡ planAnswer (now (src .entry)) (record { vcpus = now (vt .entry); mutexes = now (mt .entry); opens = now (ot .entry); tasks = now (rows .entry) }) ⌝ }
-    ensures { λ a. ⌜ now (vt .exit) ≡ linesLeft vcpuPut (now (src .entry)) (now (vt .entry)) ⌝ }
-    ensures { λ a. ⌜ now (mt .exit) ≡ linesLeft mutexPut (now (src .entry)) (now (mt .entry)) ⌝ }
-    ensures { λ a. ⌜ now (ot .exit) ≡ linesLeft openPut (now (src .entry)) (now (ot .entry)) ⌝ }
-    ensures { λ a. ⌜ now (rows .exit) ≡ linesLeft taskPut (now (src .entry)) (now (rows .entry)) ⌝ }
-{
-    let a = reader::read_lines(src, vt, mt, ot, rows);
-    let n = count_of(a);
-    all_kept(rows, n);
-    a
 }

@@ -15,12 +15,6 @@ use Rattle.listing.specs.Listing.{listing}
 use Rattle.writers.specs.declared.TextAnswer.the-variants.{Refused}
 use Rattle.writers.specs.Into.{textAnswer, textAfter}
 use Rattle.lister.specs.Asked.{listingAsked, listingLeft}
-use Rattle.lockboard.specs.Facts.{factsOf}
-use Rattle.lockboard.specs.declared.Board.{Board}
-use Rattle.lockboard.specs.declared.Event.{Event}
-use Rattle.lockboard.specs.Board as board
-use Rattle.boards.specs.declared.FreshAnswer.the-variants.{Made, NoBoard}
-use Rattle.boards.specs.Entered.{noBoard, freshFor, stepFor}
 use Rattle.records.specs.declared.Task.{Task}
 use Rattle.records.specs.Sheet.{cutTo, tablesOf}
 use Rattle.sheets.specs.Replies.{Question, IsGiven, VcpuTime, WaitTime, TaskTime, SectionResponse, Given, Row, TaskRow, Figure, replyTo}
@@ -40,14 +34,6 @@ module _ (vt mt ot : List ℕ) (ks : List Task) (r : PlanRecord) where
   reply-cut (WaitTime v n i) = ap Row (cut-told vt mt ot ks (λ p. waitRowOf (system p) v n i) (NoRow Foreign) r)
   reply-cut (TaskTime v n) = ap TaskRow (cut-told vt mt ot ks (λ p. taskRowOf (system p) v n) (NoTaskRow Foreign) r)
   reply-cut (SectionResponse v n i) = ap Figure (cut-told vt mt ot ks (λ p. responseRowOf (system p) v n i) (NoFigure Foreign) r)
-
-  pub fresh-cut : freshFor r cut ≡ freshFor r whole
-  unfolding freshFor
-  fresh-cut = cut-told vt mt ot ks (λ p. record { answer = Made; board = board.fresh (factsOf (system p)) }) (record { answer = NoBoard Foreign; board = noBoard }) r
-
-  pub step-cut : (b : Board) (e : Event) → stepFor r cut b e ≡ stepFor r whole b e
-  unfolding stepFor
-  step-cut b e = cut-told vt mt ot ks (λ p. board.stepOn (factsOf (system p)) b e) (board.refused b Foreign) r
 
   pub listing-cut : (o : List ℕ) → listingAsked r cut o ≡ listingAsked r whole o
   unfolding listingAsked

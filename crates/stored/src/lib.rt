@@ -3,19 +3,16 @@ use model::OverrunChoice;
 use model::Policy;
 use tables::PlanRecord;
 ghost use mathlib.Core.Path.{_≡_};
-ghost use mathlib.Core.Bool.{true};
 ghost use Prim.Native.Nat.{_+_, _*_, _<_, _≤_, _^_};
-ghost use lib.Dec.{eqb};
 ghost use lib.ListN.{length, set};
 ghost use Rattle.laws.specs.Choice.{when};
 ghost use Rattle.laws.specs.Sums.{up};
-ghost use Rattle.laws.specs.Rows.{rows, Is};
-ghost use Rattle.model.specs.Lookup.{hasVcpu};
+ghost use Rattle.laws.specs.Rows.{Is};
 ghost use Rattle.tables.specs.Layout.{vcpuRow, lockRow, taskRow};
 ghost use Rattle.figures.specs.Tabled.{Fit, systemIn};
 ghost use Rattle.figures.specs.Parts.{lowerSum, higherSum};
-ghost use Rattle.figures.specs.Figures.{vcpuAt, higherOn, lowerTask, higherTask, longestGlobal, localBlocking, ght, load, preemption, responseBy, response};
-ghost use Rattle.stored.specs.Stored.{TasksIn, BlockingsIn, VcpusIn, PreemptionsIn, sectionResponse, maxResponse, ResponsesIn, responseFor, Stored};
+ghost use Rattle.figures.specs.Figures.{higherOn, lowerTask, higherTask, longestGlobal, localBlocking, ght, load, preemption, responseBy, response};
+ghost use Rattle.checker.specs.Stored.{TasksIn, BlockingsIn, VcpusIn, PreemptionsIn, sectionResponse, maxResponse, ResponsesIn, responseFor, Stored};
 
 // Writes the first four numbers of task i.
 fn put_task(tf: &mut [u64], i: usize, x: u64, y: u64, z: u64, w: u64)
@@ -188,14 +185,6 @@ fn fill_preemptions(r: PlanRecord, vt: &[u64], mt: &[u64], ts: &[u64], vf: &mut 
     }
 }
 
-// The row of VCPU v.
-pub fn vcpu_of(r: PlanRecord, vt: &[u64], mt: &[u64], ts: &[u64], v: u64) -> usize
-    requires { ⌜ Fit r (now vt) (now mt) (now ts) × (hasVcpu (rows (r .vcpus) (vcpuRow (now vt))) v ≡ true) ⌝ }
-    ensures { λ x. ⌜ (x < r .vcpus) × (vcpuAt (systemIn r (now (vt .entry)) (now (mt .entry)) (now (ts .entry))) v ≡ vcpuRow (now (vt .entry)) x) ⌝ }
-{
-    found::vcpu_row(r, vt, mt, ts, v)
-}
-
 // What task h adds to the load of a section of task i.
 fn load_at(r: PlanRecord, vt: &[u64], mt: &[u64], ts: &[u64], tf: &[u64], i: usize, h: usize) -> u64
     requires { ⌜ Fit r (now vt) (now mt) (now ts) × TasksIn r (now vt) (now mt) (now ts) (now tf) × (i < r .tasks) × (h < r .tasks) ⌝ }
@@ -287,7 +276,7 @@ fn response_of(
     requires { ⌜ Fit r (now vt) (now mt) (now ts) × TasksIn r (now vt) (now mt) (now ts) (now tf) × VcpusIn r (now vt) (now mt) (now ts) (now vf) × PreemptionsIn r (now vt) (now mt) (now ts) (now vf) × (i < r .tasks) × (j < 8) ⌝ }
     ensures { λ x. ⌜ Is x (response (systemIn r (now (vt .entry)) (now (mt .entry)) (now (ts .entry))) (taskRow (now (ts .entry)) i) (lockRow (now (ts .entry)) i j)) maxResponse ⌝ }
 {
-    let a = vcpu_of(r, vt, mt, ts, cells::task_cell(r, vt, mt, ts, i, 0));
+    let a = found::vcpu_of(r, vt, mt, ts, cells::task_cell(r, vt, mt, ts, i, 0));
     let load = cells::lock_cell(r, vt, mt, ts, i, j, 1) + higher_sum(r, vt, mt, ts, tf, i);
     response_on(r, vt, mt, ts, vf, a, load)
 }

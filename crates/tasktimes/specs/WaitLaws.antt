@@ -24,7 +24,7 @@ use Rattle.figures.specs.Tabled.{Fit, systemIn}
 use Rattle.figures.specs.Figures.{vcpuAt, higherTask, gap, lengths, localBlocking, taskDemand}
 use Rattle.figures.specs.declared.TaskAnswer.the-variants.{Searched, NoWait, Held}
 use Rattle.figures.specs.Answers.{remoteWaits, lacksWait, isHeld, taskAnswer}
-use Rattle.times.specs.CostLaws.{row-same}
+use Rattle.checker.specs.CostLaws.{row-same}
 use Rattle.tasktimes.specs.Waits.{WaitsIn, preemptRow, supplyRow, taskRows}
 
 -- a flag is 1 where the test holds

@@ -12,7 +12,7 @@ use Rattle.figures.specs.System.{System}
 use Rattle.figures.specs.Tabled.{systemIn}
 use Rattle.figures.specs.Figures.{higherTask, gap, lengths}
 use Rattle.figures.specs.Answers.{remoteWaits, lacksWait}
-use Rattle.stored.specs.Stored.{Held}
+use Rattle.checker.specs.Stored.{Held}
 
 -- ws has the remote waits of each task, and fs a 1 for each that lacks one
 pub record Waits (s : System) (row : ℕ → Task) (n : ℕ) (ws fs : List ℕ) : Type 0 where

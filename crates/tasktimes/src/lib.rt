@@ -15,7 +15,7 @@ ghost use Rattle.tables.specs.Layout.{taskRow};
 ghost use Rattle.figures.specs.Tabled.{Fit, systemIn};
 ghost use Rattle.figures.specs.Figures.{vcpuAt, higherTask, lengths, localBlocking, taskDemand};
 ghost use Rattle.figures.specs.Answers.{remoteWaits, lacksWait, isHeld, taskAnswer};
-ghost use Rattle.stored.specs.Stored.{TasksIn, BlockingsIn};
+ghost use Rattle.checker.specs.Stored.{TasksIn, BlockingsIn};
 ghost use Rattle.tasktimes.specs.Waits.{WaitsIn, preemptRow, taskRows};
 
 // Does task h lack a wait?
@@ -142,7 +142,7 @@ fn task_rows(
     requires { ⌜ Fit r (now vt) (now mt) (now ts) × TasksIn r (now vt) (now mt) (now ts) (now tf) × WaitsIn r (now vt) (now mt) (now ts) (now ws) (now fs) × (i < r .tasks) × (240 ≤ length (now rows)) ⌝ }
     ensures { λ n. ⌜ (n ≤ 65) × (rowsIn (now (rows .exit)) n ≡ taskRows (systemIn r (now (vt .entry)) (now (mt .entry)) (now (ts .entry))) (taskRow (now (ts .entry)) i) (vcpuAt (systemIn r (now (vt .entry)) (now (mt .entry)) (now (ts .entry))) (taskRow (now (ts .entry)) i .v))) × Each Sound (rowsIn (now (rows .exit)) n) ⌝ }
 {
-    let a = stored::vcpu_of(r, vt, mt, ts, cells::task_cell(r, vt, mt, ts, i, 0));
+    let a = found::vcpu_of(r, vt, mt, ts, cells::task_cell(r, vt, mt, ts, i, 0));
     let budget = cells::vcpu_cell(r, vt, mt, ts, a, 3);
     let period = cells::vcpu_cell(r, vt, mt, ts, a, 4);
     let gap = period - budget;

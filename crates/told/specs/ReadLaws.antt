@@ -27,9 +27,9 @@ use Rattle.figures.specs.declared.TaskAnswer.{TaskAnswer}
 use Rattle.figures.specs.declared.TaskAnswer.the-variants.{Searched, NoWait, Held}
 use Rattle.figures.specs.Answers.{vcpuAnswer, waitAnswer, taskAnswer, isFits, taskFits, allFit}
 use Rattle.checker.specs.Store.{vcpuAnswers, waitAnswers, taskAnswers}
-use Rattle.answers.specs.Filled.{rowCells, answerRow, taskAnswerRow, isSection, placeRow, placeAt, Filled}
-use Rattle.answers.specs.FilledLaws.{front-length}
-use Rattle.answers.specs.Places.{place-section, vcpus-over, waits-over, tasks-over}
+use Rattle.checker.specs.Filled.{rowCells, answerRow, taskAnswerRow, isSection, placeRow, placeAt, Filled}
+use Rattle.checker.specs.FilledLaws.{front-length}
+use Rattle.checker.specs.Places.{place-section, vcpus-over, waits-over, tasks-over}
 use Rattle.told.specs.Read.{answerOf, taskAnswerOf, answerIn, taskAnswerIn, fitsIn, VcpuAnswersIn, WaitAnswersIn, TaskAnswersIn, AnswersIn}
 
 -- AN ANSWER'S NUMBERS ARE THAT ANSWER

@@ -1,4 +1,4 @@
-// A plan's answers: all of them into slices, and each read back.
+// A plan's answers, each read back from the slices that hold them.
 use figures::TaskAnswer;
 use search::Answer;
 use tables::PlanRecord;
@@ -9,7 +9,7 @@ ghost use Rattle.laws.specs.Sums.{all};
 ghost use Rattle.laws.specs.Rows.{rows};
 ghost use Rattle.figures.specs.Tabled.{Fit, systemIn};
 ghost use Rattle.figures.specs.Answers.{allFit};
-ghost use Rattle.told.specs.Read.{answerOf, taskAnswerOf, answerIn, taskAnswerIn, fitsIn, VcpuAnswersIn, TaskAnswersIn, AnswersIn};
+ghost use Rattle.told.specs.Read.{answerOf, taskAnswerOf, answerIn, taskAnswerIn, fitsIn, VcpuAnswersIn, TaskAnswersIn};
 
 fn answer_of(k: u64, w: u64, n: u64) -> Answer
     ensures { λ a. ⌜ a ≡ answerOf k w n ⌝ }
@@ -78,41 +78,4 @@ pub fn all_fit(r: PlanRecord, vt: &[u64], mt: &[u64], ts: &[u64], va: &[u64], ta
     ensures { λ b. ⌜ b ≡ allFit (systemIn r (now (vt .entry)) (now (mt .entry)) (now (ts .entry))) ⌝ }
 {
     rows_fit(va, r.vcpus) & rows_fit(ta, r.tasks)
-}
-
-// Fills every answer of the plan in the tables; tf and rf are scratch.
-pub fn fill_answers(
-    r: PlanRecord,
-    vt: &[u64],
-    mt: &[u64],
-    ts: &[u64],
-    tf: &mut [u64],
-    rf: &mut [u64],
-    va: &mut [u64],
-    wa: &mut [u64],
-    ta: &mut [u64],
-)
-    requires { ⌜ Fit r (now vt) (now mt) (now ts) × (r .tasks * 5 ≤ length (now tf)) × (r .tasks * 8 ≤ length (now rf)) × (48 ≤ length (now va)) × (r .tasks * 24 ≤ length (now wa)) × (r .tasks * 3 ≤ length (now ta)) ⌝ }
-    ensures { λ _. ⌜ AnswersIn r (now (vt .entry)) (now (mt .entry)) (now (ts .entry)) (now (va .exit)) (now (wa .exit)) (now (ta .exit)) ⌝ }
-{
-    let mut vf = [0u64; 48];
-    let mut rows = [0u64; 240];
-    let mut ws = [0u64; 64];
-    let mut fs = [0u64; 64];
-    stored::stored(r, vt, mt, ts, tf, &mut vf, rf);
-    answers::answers(
-        r,
-        vt,
-        mt,
-        ts,
-        tf,
-        &vf,
-        rf,
-        &mut rows,
-        &mut ws,
-        &mut fs,
-        va,
-        wa,
-        ta,
-    );
 }

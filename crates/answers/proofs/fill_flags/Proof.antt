@@ -4,8 +4,8 @@ use Rattle.figures.specs.Answers.{lacksWait}
 use Rattle.figures.specs.PartLaws.{is-then}
 use Rattle.figures.specs.Tabled.{systemIn}
 use Rattle.laws.specs.Choice.{when}
-use Rattle.stored.specs.Stored.{Held}
-use Rattle.stored.specs.StoredLaws.{held-all, held-more, held-none}
+use Rattle.checker.specs.Stored.{Held}
+use Rattle.checker.specs.StoredLaws.{held-all, held-more, held-none}
 use Rattle.tables.specs.Layout.{taskRow}
 use borrow.Author.Needs.{needs}
 use lib.ListN.{length, length-set}

@@ -2,8 +2,8 @@
 use Prim.Native.Nat.{_-_}
 use Rattle.figures.specs.Answers.{remoteWaits}
 use Rattle.figures.specs.Tabled.{systemIn}
-use Rattle.stored.specs.Stored.{Held}
-use Rattle.stored.specs.StoredLaws.{held-all, held-more, held-none}
+use Rattle.checker.specs.Stored.{Held}
+use Rattle.checker.specs.StoredLaws.{held-all, held-more, held-none}
 use Rattle.tables.specs.Layout.{taskRow}
 use borrow.Author.Needs.{needs}
 use lib.ListN.{length, length-set}

@@ -1,8 +1,8 @@
 -- `fill_tasks` meets its contract: the answers before this one are written.
 use Prim.Native.Nat.{_-_}
-use Rattle.answers.specs.Filled.{Filled, taskAnswerRow}
-use Rattle.answers.specs.FilledLaws.{filled-more, filled-none}
-use Rattle.answers.specs.Places.{tasks-over}
+use Rattle.checker.specs.Filled.{Filled, taskAnswerRow}
+use Rattle.checker.specs.FilledLaws.{filled-more, filled-none}
+use Rattle.checker.specs.Places.{tasks-over}
 use Rattle.figures.specs.Answers.{taskAnswer}
 use Rattle.figures.specs.Tabled.{systemIn}
 use Rattle.laws.specs.Rows.{rows}

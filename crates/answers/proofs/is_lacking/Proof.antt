@@ -1,6 +1,6 @@
 -- `is_lacking` meets its contract: no wait before this one lacks an answer.
 use Prim.Native.Nat.{_-_}
-use Rattle.answers.specs.Places.{found-locks}
+use Rattle.checker.specs.Places.{found-locks}
 use Rattle.figures.specs.Answers.{isLate, lacksWait, waitAnswer}
 use Rattle.figures.specs.Tabled.{systemIn}
 use Rattle.laws.specs.RowLaws.{lacking-all, lacking-more, lacking-none, lacking-out}

@@ -1,5 +1,5 @@
 -- `wait_late` meets its contract.
-use Rattle.answers.specs.Places.{late-read}
+use Rattle.checker.specs.Places.{late-read}
 use Rattle.model.specs.Lookup.{global}
 use Rattle.tables.specs.Layout.{lockRow}
 use borrow.Author.Needs.{needs}

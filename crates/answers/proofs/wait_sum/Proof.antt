@@ -8,7 +8,7 @@ use Rattle.laws.specs.Rows.{Summed}
 use Rattle.laws.specs.Sums.{sum}
 use Rattle.model.specs.Lookup.{global}
 use Rattle.tables.specs.Layout.{lockRow, taskRow}
-use Rattle.times.specs.CostLaws.{over-locks}
+use Rattle.checker.specs.CostLaws.{over-locks}
 use borrow.Author.Needs.{needs}
 use native.Mathlib.Omega.{arith}
 use Rattle.answers.proofs.wait_sum.Statement.{statement}

@@ -1,5 +1,5 @@
 -- `wait_ticks` meets its contract.
-use Rattle.answers.specs.Places.{ticks-read}
+use Rattle.checker.specs.Places.{ticks-read}
 use Rattle.tables.specs.Layout.{taskRow}
 use borrow.Author.Needs.{needs}
 use native.Mathlib.Omega.{arith}

@@ -2,7 +2,7 @@ use Rattle.model.specs.Rules.{follows}
 use mathlib.Core.Bool.{_||_}
 use lib.Dec.{eqb}
 use mathlib.Core.Path.{refl, ap}
-use Rattle.judge.proofs.Laws.{told}
+use Rattle.coded.specs.KindLaws.{told}
 use borrow.Author.Needs.{needs}
 use Rattle.judge.proofs.follows.Statement.{statement}
 use Rattle.judge.proofs.follows.Tie as tie

@@ -5,8 +5,8 @@ use Rattle.laws.specs.Fields.{field}
 use Rattle.laws.specs.Steps.{head-part, drop-part}
 use Rattle.model.specs.Limits.{tab}
 use Rattle.lines.specs.Code.{saidAfter, saidFields}
-use Rattle.lines.specs.KeyLaws.{small-slice}
-use Rattle.lines.specs.KindLaws.{kind-code}
+use Rattle.words.specs.KeyLaws.{small-slice}
+use Rattle.words.specs.KindLaws.{kind-code}
 use Rattle.lines.specs.SaidLaws.{said-code}
 use Rattle.lines.proofs.said_of.Statement.{statement}
 use Rattle.lines.proofs.said_of.Tie as tie

@@ -1,7 +1,7 @@
 -- `reader::fill_if` meets its contract.
 use borrow.Author.Needs.{needs}
 use Rattle.filler.specs.Fill.{vcpuPut, mutexPut, openPut, taskPut}
-use Rattle.reader.specs.JudgedLaws.{left-on, left-off}
+use Rattle.plans.specs.JudgedLaws.{left-on, left-off}
 use Rattle.reader.proofs.fill_if.Statement.{statement}
 use Rattle.reader.proofs.fill_if.Tie as tie
 

@@ -2,9 +2,9 @@
 use mathlib.Core.Path.{_≡_, _∙_}
 use borrow.Author.Needs.{needs}
 use Rattle.tables.specs.Layout.{Tables}
-use Rattle.reader.specs.Into.{planAnswer}
-use Rattle.reader.specs.Judged.{lent}
-use Rattle.reader.specs.JudgedLaws.{Left, read-answer, read-left}
+use Rattle.plans.specs.Into.{planAnswer}
+use Rattle.plans.specs.Judged.{lent}
+use Rattle.plans.specs.JudgedLaws.{Left, read-answer, read-left}
 use Rattle.reader.proofs.read_plan.Statement.{statement}
 use Rattle.reader.proofs.read_plan.Tie as tie
 

@@ -1,8 +1,8 @@
 -- `fill_blockings` meets its contract: the rows before this one are stored.
 use Prim.Native.Nat.{_-_}
 use Rattle.figures.specs.Tabled.{systemIn}
-use Rattle.stored.specs.Stored.{Blockings, TaskFigures}
-use Rattle.stored.specs.StoredLaws.{held-all, held-more, held-none, tasks-keep}
+use Rattle.checker.specs.Stored.{Blockings, TaskFigures}
+use Rattle.checker.specs.StoredLaws.{held-all, held-more, held-none, tasks-keep}
 use Rattle.tables.specs.Layout.{taskRow}
 use borrow.Author.Needs.{needs}
 use lib.ListN.{length, length-set}

@@ -1,8 +1,8 @@
 -- `fill_preemptions` meets its contract: the rows before this one are stored.
 use Prim.Native.Nat.{_-_}
 use Rattle.figures.specs.Tabled.{systemIn}
-use Rattle.stored.specs.Stored.{Preemptions, VcpuFigures}
-use Rattle.stored.specs.StoredLaws.{held-all, held-more, held-none, vcpus-keep}
+use Rattle.checker.specs.Stored.{Preemptions, VcpuFigures}
+use Rattle.checker.specs.StoredLaws.{held-all, held-more, held-none, vcpus-keep}
 use Rattle.tables.specs.Layout.{vcpuRow}
 use borrow.Author.Needs.{needs}
 use lib.ListN.{length, length-set}

@@ -1,8 +1,8 @@
 -- `fill_responses` meets its contract: the responses before this one are stored.
 use Prim.Native.Nat.{_-_}
 use Rattle.figures.specs.Tabled.{systemIn}
-use Rattle.stored.specs.Stored.{Responses}
-use Rattle.stored.specs.StoredLaws.{held-all, held-more, held-none}
+use Rattle.checker.specs.Stored.{Responses}
+use Rattle.checker.specs.StoredLaws.{held-all, held-more, held-none}
 use borrow.Author.Needs.{needs}
 use lib.ListN.{length, length-set}
 use mathlib.Core.Path.{_≡_, refl}

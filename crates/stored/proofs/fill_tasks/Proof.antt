@@ -1,8 +1,8 @@
 -- `fill_tasks` meets its contract: the rows before this one are stored.
 use Prim.Native.Nat.{_-_}
 use Rattle.figures.specs.Tabled.{systemIn}
-use Rattle.stored.specs.Stored.{TaskFigures}
-use Rattle.stored.specs.StoredLaws.{tasks-all, tasks-more, tasks-none}
+use Rattle.checker.specs.Stored.{TaskFigures}
+use Rattle.checker.specs.StoredLaws.{tasks-all, tasks-more, tasks-none}
 use Rattle.tables.specs.Layout.{taskRow}
 use borrow.Author.Needs.{needs}
 use lib.ListN.{length}

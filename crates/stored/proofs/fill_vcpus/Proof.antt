@@ -3,8 +3,8 @@ use Prim.Native.Nat.{_-_}
 use Rattle.figures.specs.Figures.{ght}
 use Rattle.figures.specs.PartLaws.{is-then}
 use Rattle.figures.specs.Tabled.{systemIn}
-use Rattle.stored.specs.Stored.{VcpuFigures}
-use Rattle.stored.specs.StoredLaws.{start-is, vcpus-all, vcpus-more, vcpus-none}
+use Rattle.checker.specs.Stored.{VcpuFigures}
+use Rattle.checker.specs.StoredLaws.{start-is, vcpus-all, vcpus-more, vcpus-none}
 use Rattle.tables.specs.Layout.{vcpuRow}
 use borrow.Author.Needs.{needs}
 use lib.ListN.{length}

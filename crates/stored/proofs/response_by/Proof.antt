@@ -1,6 +1,6 @@
 -- `response_by` meets its contract.
 use Prim.Native.Nat.{_*_, _≤_}
-use Rattle.stored.specs.StoredLaws.{response-without}
+use Rattle.checker.specs.StoredLaws.{response-without}
 use borrow.Author.Needs.{needs}
 use mathlib.Core.Path.{refl}
 use native.Mathlib.Nat.{mul-le-mul}

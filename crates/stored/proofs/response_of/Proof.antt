@@ -3,7 +3,7 @@ use Prim.Native.Nat.{_+_}
 use Rattle.figures.specs.Figures.{load, vcpuAt}
 use Rattle.figures.specs.Parts.{higherSum}
 use Rattle.figures.specs.Tabled.{systemIn}
-use Rattle.stored.specs.StoredLaws.{response-is}
+use Rattle.checker.specs.StoredLaws.{response-is}
 use Rattle.tables.specs.Layout.{lockRow, taskRow}
 use borrow.Author.Needs.{needs}
 use mathlib.Core.Path.{_∙_, ap, ap₂, sym}

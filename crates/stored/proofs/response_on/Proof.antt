@@ -1,6 +1,6 @@
 -- `response_on` meets its contract.
 use Prim.Native.Nat.{_-_}
-use Rattle.stored.specs.StoredLaws.{response-read}
+use Rattle.checker.specs.StoredLaws.{response-read}
 use Rattle.tables.specs.Layout.{vcpuRow}
 use borrow.Author.Needs.{needs}
 use mathlib.Core.Path.{ap₂}

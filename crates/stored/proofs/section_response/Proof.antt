@@ -1,7 +1,7 @@
 -- `section_response` meets its contract.
 use Rattle.figures.specs.PartLaws.{is-in, is-out}
 use Rattle.model.specs.Lookup.{global}
-use Rattle.stored.specs.Stored.{sectionResponse}
+use Rattle.checker.specs.Stored.{sectionResponse}
 use Rattle.tables.specs.Layout.{lockRow}
 use borrow.Author.Needs.{needs}
 use lib.Dec.{ltb}

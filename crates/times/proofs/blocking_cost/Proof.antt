@@ -2,7 +2,7 @@
 use Prim.Native.Nat.{_*_, _+_, _≤_}
 use Rattle.figures.specs.PartLaws.{is-in, is-out, is-then, is-times}
 use Rattle.tables.specs.Layout.{taskRow}
-use Rattle.times.specs.Costs.{blockingCost, lowerTimes}
+use Rattle.checker.specs.Costs.{blockingCost, lowerTimes}
 use borrow.Author.Needs.{needs}
 use lib.ListN.{getD}
 use mathlib.Core.Path.{ap, refl}

@@ -4,7 +4,7 @@ use Rattle.figures.specs.Tabled.{systemIn}
 use Rattle.laws.specs.RowLaws.{summed-all, summed-more, summed-none}
 use Rattle.laws.specs.Rows.{Summed}
 use Rattle.tables.specs.Layout.{taskRow, vcpuRow}
-use Rattle.times.specs.Costs.{blockingCost}
+use Rattle.checker.specs.Costs.{blockingCost}
 use borrow.Author.Needs.{needs}
 use Rattle.times.proofs.blocking_costs.Statement.{statement}
 use Rattle.times.proofs.blocking_costs.Tie as tie

@@ -1,6 +1,6 @@
 -- `blocking_ght` meets its contract.
 use Rattle.figures.specs.PartLaws.{is-in, is-out}
-use Rattle.times.specs.Costs.{blockingGht}
+use Rattle.checker.specs.Costs.{blockingGht}
 use borrow.Author.Needs.{needs}
 use mathlib.Core.Bool.{_&&_, not}
 use mathlib.Core.Path.{ap}

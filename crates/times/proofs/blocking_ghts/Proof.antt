@@ -4,7 +4,7 @@ use Rattle.figures.specs.Tabled.{systemIn}
 use Rattle.laws.specs.RowLaws.{summed-all, summed-more, summed-none}
 use Rattle.laws.specs.Rows.{Summed}
 use Rattle.tables.specs.Layout.{vcpuRow}
-use Rattle.times.specs.Costs.{blockingGht}
+use Rattle.checker.specs.Costs.{blockingGht}
 use borrow.Author.Needs.{needs}
 use Rattle.times.proofs.blocking_ghts.Statement.{statement}
 use Rattle.times.proofs.blocking_ghts.Tie as tie

@@ -6,7 +6,7 @@ use Rattle.laws.specs.Choice.{when}
 use Rattle.laws.specs.RowLaws.{summed-all, summed-more, summed-none}
 use Rattle.laws.specs.Rows.{Summed}
 use Rattle.tables.specs.Layout.{vcpuRow}
-use Rattle.times.specs.Costs.{lowerTimes}
+use Rattle.checker.specs.Costs.{lowerTimes}
 use borrow.Author.Needs.{needs}
 use lib.Dec.{eqb}
 use mathlib.Core.Bool.{_&&_}

@@ -2,7 +2,7 @@
 use Rattle.figures.specs.Tabled.{systemIn}
 use Rattle.search.specs.Row.{pushed}
 use Rattle.tables.specs.Layout.{vcpuRow}
-use Rattle.times.specs.CostLaws.{higher-row-is}
+use Rattle.checker.specs.CostLaws.{higher-row-is}
 use borrow.Author.Needs.{needs}
 use mathlib.Core.Path.{_∙_, ap}
 use native.Mathlib.Omega.{arith}

@@ -10,8 +10,8 @@ use Rattle.search.specs.Row.{Picked}
 use Rattle.search.specs.TableLaws.{picked-all, picked-none}
 use Rattle.tables.specs.Layout.{vcpuRow, taskRow}
 use Rattle.figures.specs.Tabled.{systemIn}
-use Rattle.times.specs.Costs.{blockingCost, costRow, costs}
-use Rattle.times.specs.CostLaws.{cost-added, cost-room}
+use Rattle.checker.specs.Costs.{blockingCost, costRow, costs}
+use Rattle.checker.specs.CostLaws.{cost-added, cost-room}
 use Rattle.times.proofs.task_rows.Statement.{statement}
 use Rattle.times.proofs.task_rows.Tie as tie
 

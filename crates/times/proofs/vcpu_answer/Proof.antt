@@ -1,7 +1,7 @@
 -- `vcpu_answer` meets its contract: the rows and the base have the demand of equation 5.
 use Rattle.figures.specs.Tabled.{systemIn}
 use Rattle.tables.specs.Layout.{vcpuRow}
-use Rattle.times.specs.CostLaws.{rows-both, start-below, vcpu-found, vcpu-sound}
+use Rattle.checker.specs.CostLaws.{rows-both, start-below, vcpu-found, vcpu-sound}
 use borrow.Author.Needs.{needs}
 use mathlib.Core.Path.{_∙_}
 use native.Mathlib.Omega.{arith}

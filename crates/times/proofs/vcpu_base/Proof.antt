@@ -1,7 +1,7 @@
 -- `vcpu_base` meets its contract.
 use Prim.Native.Nat.{_+_}
 use Rattle.figures.specs.Tabled.{systemIn}
-use Rattle.times.specs.Costs.{vcpuBase}
+use Rattle.checker.specs.Costs.{vcpuBase}
 use borrow.Author.Needs.{needs}
 use mathlib.Core.Path.{ap₂}
 use native.Mathlib.Omega.{arith}

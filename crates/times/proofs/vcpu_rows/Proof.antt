@@ -7,7 +7,7 @@ use Rattle.laws.specs.Rows.{rows}
 use Rattle.search.specs.Row.{Picked, rowsIn}
 use Rattle.search.specs.TableLaws.{picked-all, picked-in, picked-none, picked-out}
 use Rattle.tables.specs.Layout.{vcpuRow}
-use Rattle.times.specs.Costs.{higherRow}
+use Rattle.checker.specs.Costs.{higherRow}
 use borrow.Author.Needs.{needs}
 use borrow.Author.Tests.{not-false, not-true}
 use lib.ListN.{length}

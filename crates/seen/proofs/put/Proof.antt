@@ -1,0 +1,18 @@
+use lib.Seq.{set-out}
+use mathlib.Core.Path.{sym}
+use native.Mathlib.Omega.{arith}
+use Rattle.coded.specs.Coded.{byte}
+use borrow.Author.Needs.{needs}
+use Rattle.seen.proofs.put.Statement.{statement}
+use Rattle.seen.proofs.put.Tie as tie
+
+returns : tie.Need-returns
+returns c = cc
+
+returns-2 : tie.Need-returns-2
+returns-2 c = let a = c .before .before .args in sym (set-out (a .d .now) (a .i) (byte (a .x)) (omega arith))
+
+pub put-spec : {M : Type 1} → statement M
+put-spec =
+    tie.close
+    (tie.spec (λ c κs. search needs) (λ c. search needs) (λ c. search needs) returns returns-2)

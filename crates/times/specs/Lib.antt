@@ -1,2 +1,0 @@
-pub mod Costs
-pub mod CostLaws

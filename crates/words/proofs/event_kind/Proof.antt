@@ -1,0 +1,20 @@
+-- `lines::event_kind` meets its contract: one kind after the other.
+use borrow.Author.Needs.{needs}
+use Rattle.words.specs.Keys.{eventKind, keyOf, spell}
+use Rattle.words.specs.KindLaws.{first-then}
+use Rattle.words.proofs.event_kind.Statement.{statement}
+use Rattle.words.proofs.event_kind.Tie as tie
+
+returns : tie.Need-returns
+unfolding eventKind keyOf spell
+returns c =
+    first-then _ _ (c .first5 .ensures)
+    (first-then _ _ (c .before .first4 .ensures)
+    (first-then _ _ (c .before .before .first3 .ensures)
+    (first-then _ _ (c .before .before .before .first2 .ensures)
+    (c .before .before .before .before .first .ensures))))
+
+pub event-kind-spec : {M : Type 1} → statement M
+event-kind-spec =
+    tie.close
+    (tie.spec (λ c κs. search needs) (λ c κs. search needs) (λ c κs. search needs) (λ c κs. search needs) (λ c κs. search needs) returns)
