@@ -2,12 +2,11 @@
 use figures::TaskAnswer;
 use tables::PlanRecord;
 ghost use mathlib.Core.Path.{_≡_};
-ghost use mathlib.Core.Bool.{true, _&&_};
+ghost use mathlib.Core.Bool.{_&&_};
 ghost use Prim.Native.Nat.{_+_, _*_, _<_, _≤_};
 ghost use lib.ListN.{length};
 ghost use Rattle.laws.specs.Choice.{when};
 ghost use Rattle.laws.specs.Rows.{Is};
-ghost use Rattle.search.specs.Search.{rounds};
 ghost use Rattle.search.specs.Row.{pushed};
 ghost use Rattle.model.specs.Lookup.{global};
 ghost use Rattle.tables.specs.Layout.{cell, over, lockRow, taskRow};

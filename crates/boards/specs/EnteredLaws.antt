@@ -31,7 +31,7 @@ use Rattle.keeps.specs.Keeps.{step-keeps}
 use Rattle.keeps.specs.Runs as runs
 use Rattle.keeps.specs.NotNine.{step-not-nine, NotNine}
 use Rattle.keeps.specs.Tested.{answersOn, fresh-answers-on}
-use Rattle.views.specs.ViewOf.{viewOf}
+use Rattle.viewcells.specs.ViewOf.{viewOf}
 use Rattle.views.specs.TableLaws.{given-facts}
 use Rattle.boards.specs.Entered.{Made, NoBoard, factsFrom, noBoard, freshFor, stepFor}
 

@@ -1,5 +1,3 @@
-pub mod Told
-pub mod ToldLaws
 pub mod Tells
 pub mod Stays
 pub mod LoopLaws

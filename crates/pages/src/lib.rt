@@ -1,6 +1,6 @@
 // The listing's lines, from the answers of a plan and the order of its tasks into a buffer with room.
 use tables::PlanRecord;
-ghost use Prim.Native.Nat.{_*_, _<_, _≤_};
+ghost use Prim.Native.Nat.{_<_, _≤_};
 ghost use lib.ListN.{length};
 ghost use Rattle.laws.specs.Sums.{flat};
 ghost use Rattle.tables.specs.Layout.{cell, vcpuRow, lockRow, taskRow};

@@ -23,7 +23,7 @@ use Rattle.lockboard.specs.Board.{fresh}
 use Rattle.lockboard.specs.Events.{lineAnswers, answersText}
 use Rattle.keeps.specs.FairLaws.{fair}
 use Rattle.keeps.specs.Runs.{fresh-good}
-use Rattle.views.specs.ViewOf.{viewOf}
+use Rattle.viewcells.specs.ViewOf.{viewOf}
 use Rattle.views.specs.TableLaws.{given-facts}
 use Rattle.writers.specs.declared.TextAnswer.{TextAnswer}
 use Rattle.writers.specs.Into.{textAnswer, textAfter}

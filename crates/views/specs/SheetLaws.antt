@@ -24,10 +24,10 @@ use Rattle.figures.specs.Figures.{locksIt}
 use Rattle.lockboard.specs.Facts.{lists}
 use Rattle.lockboard.specs.View.{atLists, viewLength, isV, isN, isM}
 use Rattle.keeps.specs.Cases.{clash}
-use Rattle.views.specs.ViewOf.{bit, viewOf}
+use Rattle.viewcells.specs.ViewOf.{bit, viewOf}
 use Rattle.views.specs.Sheets.{Names, placeOf, Marked, Blank, blankAt, inTurn, marked, markedBy}
-use Rattle.views.specs.ViewLaws.{name-in, in-name, view-length}
-use Rattle.views.specs.FillLaws.{Written, sheet-place}
+use Rattle.viewcells.specs.ViewLaws.{name-in, in-name, view-length}
+use Rattle.viewcells.specs.FillLaws.{Written, sheet-place}
 
 -- ROWS IN TURN
 turn-append : {A B : Type 0} (f : A → B → B) (xs ys : List A) (w : B) → inTurn f (xs ++ ys) w ≡ inTurn f ys (inTurn f xs w)

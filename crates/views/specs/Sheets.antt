@@ -11,7 +11,7 @@ use Rattle.model.specs.Plan.{Task}
 use Rattle.figures.specs.System.{System}
 use Rattle.lockboard.specs.View.{atLists, viewLength, isV, isN, isM}
 use Rattle.lockboard.specs.Board.{seat}
-use Rattle.views.specs.ViewOf.{bit, viewOf}
+use Rattle.viewcells.specs.ViewOf.{bit, viewOf}
 
 -- the numbers before the sheets are the view's, and number j of the sheets is 1 just where q holds of j
 pub record Marked (s : System) (q : ℕ → Bool) (w : List ℕ) : Type 0 where

@@ -15,8 +15,8 @@ use Rattle.figures.specs.System.{system}
 use Rattle.figures.specs.Tabled.{systemIn}
 use Rattle.lockboard.specs.Facts.{factsOf}
 use Rattle.lockboard.specs.View.{viewLength, factsIn}
-use Rattle.views.specs.ViewOf.{viewOf}
-use Rattle.views.specs.FillLaws.{filled-facts}
+use Rattle.viewcells.specs.ViewOf.{viewOf}
+use Rattle.viewcells.specs.FillLaws.{filled-facts}
 
 pub system-given : {p : Plan} {r : PlanRecord} {t : Tables} → Valid p → Gives p r t → systemIn r (t .vcpus) (t .mutexes) (t .tasks) ≡ system p
 unfolding systemIn recordOf

@@ -5,7 +5,6 @@ ghost use mathlib.Core.Path.{_≡_};
 ghost use mathlib.Core.Bool.{true};
 ghost use Prim.Native.Nat.{ℕ, _+_, _*_, _<_, _≤_};
 ghost use lib.ListN.{length};
-ghost use Rattle.laws.specs.Rows.{Is};
 ghost use Rattle.search.specs.Search.{rounds};
 ghost use Rattle.search.specs.Row.{rowIn, pushed};
 ghost use Rattle.model.specs.Lookup.{global};

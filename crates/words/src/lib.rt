@@ -2,7 +2,7 @@
 use model::Found;
 use model::Kind;
 ghost use mathlib.Core.Path.{_≡_};
-ghost use Prim.Native.Nat.{_+_, _≤_};
+ghost use Prim.Native.Nat.{_≤_};
 ghost use lib.ListN.{length};
 ghost use Rattle.laws.specs.Decimal.{digitOf, scan, starts, value};
 ghost use Rattle.model.specs.Limits.{maxDigits};

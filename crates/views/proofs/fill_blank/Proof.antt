@@ -1,7 +1,7 @@
 -- `fill_blank` meets its contract: the numbers before this one are written.
 use Prim.Native.Nat.{_-_}
 use Rattle.figures.specs.Tabled.{systemIn}
-use Rattle.views.specs.FillLaws.{Written, written-more, written-none}
+use Rattle.viewcells.specs.FillLaws.{Written, written-more, written-none}
 use Rattle.views.specs.SheetLaws.{written-blank}
 use Rattle.views.specs.Sheets.{blankAt}
 use borrow.Author.Needs.{needs}

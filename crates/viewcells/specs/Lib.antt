@@ -1,0 +1,5 @@
+pub mod ViewOf
+pub mod PartLaws
+pub mod OwnerLaws
+pub mod ViewLaws
+pub mod FillLaws
