@@ -30,7 +30,7 @@ use Rattle.entries.specs.Asked.{vcpuAsked, waitAsked, taskAsked, responseAsked}
 use Rattle.listing.specs.Listing.{verdictText}
 use Rattle.writers.specs.declared.TextAnswer.{TextAnswer}
 use Rattle.writers.specs.Into.{textAnswer, textAfter}
-use Rattle.lister.specs.Asked.{listingAsked, listingLeft}
+use Rattle.asked.specs.Asked.{listingAsked, listingLeft}
 use Rattle.lockboard.specs.declared.Board.{Board}
 use Rattle.lockboard.specs.declared.Event.{Event}
 use Rattle.lockboard.specs.declared.Event.the-variants.{Ask, Free, Use, Top, Show}

@@ -2,6 +2,7 @@
 // that this agrees with the rules of the model, in specs/Agrees.
 use model::within;
 ghost use mathlib.Core.Path.{_≡_};
+ghost use Rattle.model.specs.Rules.{vcpuFits};
 ghost use Rattle.coded.specs.Coded as coded;
 
 // The limits of document 01 (specs/Limits of the model): v 1 to 16.
@@ -96,4 +97,14 @@ pub fn slot(m: u64, guest: u64) -> u64
     } else {
         NOWHERE
     }
+}
+
+// Are the numbers of a VCPU in range, its budget from 1 to its period?
+pub fn vcpu_fits(v: u64, guest: u64, core: u64, budget: u64, period: u64) -> bool
+    ensures { λ r. ⌜ r ≡ vcpuFits (record { v = v; guest = guest; core = core; budget = budget; period = period }) ⌝ }
+{
+    within(v, 1, MAX_V)
+        & (within(guest, 1, MAX_GUEST)
+            & (within(core, 0, MAX_CORE)
+                & (within(period, 1, MAX_PERIOD) & within(budget, 1, period))))
 }

@@ -1,9 +1,8 @@
 -- What is printed of a reading's answer and the tables that it left, and that this is what the reading itself asks for.
-use Prim.Native.Nat.{ℕ, _≤_, _<_}
+use Prim.Native.Nat.{ℕ}
 use mathlib.Core.Path.{_≡_, refl, sym, ap, ap₂, _∙_}
 use mathlib.Core.List.{List}
 use mathlib.Core.Bool.{Bool, true, false, _||_}
-use borrow.Author.Tests.{lt-ltb, le-ltb}
 use lib.Dec.{ltb}
 use lib.ListN.{length}
 use Rattle.model.specs.Limits.{maxInput}
@@ -133,40 +132,40 @@ unfolding boardText
 board-by s es h k = ap₂ (λ (a b : Bool). elim (a || b) [ true ↦ refusedLine Room 0 | false ↦ eventsText (reading s) es ]) (sym h) (sym k)
 
 module _ (s es : List ℕ) where
-  large-plan : maxInput < length s → boardText s es ≡ refusedLine Room 0
-  large-plan h = board-by s es (sym (lt-ltb maxInput (length s) h)) refl
+  large-plan : ltb maxInput (length s) ≡ true → boardText s es ≡ refusedLine Room 0
+  large-plan h = board-by s es (sym h) refl
 
-  large-events : maxInput < length es → boardText s es ≡ refusedLine Room 0
-  large-events h = board-by s es refl (sym (lt-ltb maxInput (length es) h)) ∙ go (ltb maxInput (length s))
+  large-events : ltb maxInput (length es) ≡ true → boardText s es ≡ refusedLine Room 0
+  large-events h = board-by s es refl (sym h) ∙ go (ltb maxInput (length s))
     where
       go : (a : Bool) → _≡_ {A = List ℕ} (elim (a || true) [ true ↦ refusedLine Room 0 | false ↦ eventsText (reading s) es ]) (refusedLine Room 0)
       go true = refl
       go false = refl
 
-  small-inputs : length s ≤ maxInput → length es ≤ maxInput → boardText s es ≡ eventsText (reading s) es
-  small-inputs h k = board-by s es (sym (le-ltb maxInput (length s) h)) (sym (le-ltb maxInput (length es) k))
+  small-inputs : ltb maxInput (length s) ≡ false → ltb maxInput (length es) ≡ false → boardText s es ≡ eventsText (reading s) es
+  small-inputs h k = board-by s es (sym h) (sym k)
 
-large-verdict : (s : List ℕ) → maxInput < length s → verdictText s ≡ refusedLine Room 0
+large-verdict : (s : List ℕ) → ltb maxInput (length s) ≡ true → verdictText s ≡ refusedLine Room 0
 unfolding verdictText
-large-verdict s h = rw (lt-ltb maxInput (length s) h, verdictText)
+large-verdict s h = rw (h, verdictText)
 
-small-verdict : (s : List ℕ) → length s ≤ maxInput → verdictText s ≡ readText (reading s)
+small-verdict : (s : List ℕ) → ltb maxInput (length s) ≡ false → verdictText s ≡ readText (reading s)
 unfolding verdictText
-small-verdict s h = rw (le-ltb maxInput (length s) h, verdictText)
+small-verdict s h = rw (h, verdictText)
 
 module _ (s es o : List ℕ) {b : TextAnswer} {p : List ℕ} where
-  pub plan-printed : maxInput < length s → Printed (refusedLine Room 0) o b p → Printed (boardText s es) o b p
+  pub plan-printed : ltb maxInput (length s) ≡ true → Printed (refusedLine Room 0) o b p → Printed (boardText s es) o b p
   plan-printed h w = as-printed o (large-plan s es h) w
 
-  pub events-printed : maxInput < length es → Printed (refusedLine Room 0) o b p → Printed (boardText s es) o b p
+  pub events-printed : ltb maxInput (length es) ≡ true → Printed (refusedLine Room 0) o b p → Printed (boardText s es) o b p
   events-printed h w = as-printed o (large-events s es h) w
 
-  pub board-printed : length s ≤ maxInput → length es ≤ maxInput → Printed (eventsText (reading s) es) o b p → Printed (boardText s es) o b p
+  pub board-printed : ltb maxInput (length s) ≡ false → ltb maxInput (length es) ≡ false → Printed (eventsText (reading s) es) o b p → Printed (boardText s es) o b p
   board-printed h k w = as-printed o (small-inputs s es h k) w
 
 module _ (s o : List ℕ) {b : TextAnswer} {p : List ℕ} where
-  pub large-printed : maxInput < length s → Printed (refusedLine Room 0) o b p → Printed (verdictText s) o b p
+  pub large-printed : ltb maxInput (length s) ≡ true → Printed (refusedLine Room 0) o b p → Printed (verdictText s) o b p
   large-printed h w = as-printed o (large-verdict s h) w
 
-  pub verdict-printed : length s ≤ maxInput → Printed (readText (reading s)) o b p → Printed (verdictText s) o b p
+  pub verdict-printed : ltb maxInput (length s) ≡ false → Printed (readText (reading s)) o b p → Printed (verdictText s) o b p
   verdict-printed h w = as-printed o (small-verdict s h) w

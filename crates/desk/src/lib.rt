@@ -123,10 +123,10 @@ pub fn board_text(plan: &[u8], src: &[u8], out: &mut [u8]) -> TextAnswer
     ensures { λ x. ⌜ x ≡ textAnswer (boardText (now (plan .entry)) (now (src .entry))) (now (out .entry)) ⌝ }
     ensures { λ x. ⌜ now (out .exit) ≡ textAfter (boardText (now (plan .entry)) (now (src .entry))) (now (out .entry)) ⌝ }
 {
-    if 65536 < plan.len() {
+    if rooms::too_large(plan.len()) {
         return refusal_text(Refusal::Room, 0, out);
     }
-    if 65536 < src.len() {
+    if rooms::too_large(src.len()) {
         return refusal_text(Refusal::Room, 0, out);
     }
     text_of(true, plan, src, out)
@@ -137,7 +137,7 @@ pub fn verdict_text(src: &[u8], out: &mut [u8]) -> TextAnswer
     ensures { λ x. ⌜ x ≡ textAnswer (verdictText (now (src .entry))) (now (out .entry)) ⌝ }
     ensures { λ x. ⌜ now (out .exit) ≡ textAfter (verdictText (now (src .entry))) (now (out .entry)) ⌝ }
 {
-    if 65536 < src.len() {
+    if rooms::too_large(src.len()) {
         return refusal_text(Refusal::Room, 0, out);
     }
     text_of(false, src, src, out)

@@ -8,14 +8,11 @@ use Rattle.laws.specs.Bytes.{isNil}
 use Rattle.lines.specs.declared.Said.{Said}
 use Rattle.lines.specs.Said.{saidOf}
 use Rattle.tables.specs.Layout.{vcpuWidth, mutexWidth, openWidth, lockWidth, firstLock, taskWidth}
+use Rattle.tables.specs.Places.{place, runPlace}
 use Rattle.tallies.specs.declared.Tally.{Tally}
-use Rattle.tallies.specs.Tally.{markIn, most, bumped, tallyAfter}
+use Rattle.tallies.specs.Tally.{markIn, bumped, tallyAfter}
 
 -- WHAT A LINE WRITES
-
--- where row i begins; 0 from row 128 on, which no judged line reaches
-unfoldable pub place : ℕ → ℕ → ℕ
-place i w = cond (ltb i most) (i * w) 0
 
 -- x at k where the test holds, and where d has such a place
 unfoldable pub putIf : Bool → List ℕ → ℕ → ℕ → List ℕ
@@ -57,10 +54,6 @@ taskLinePut t s d =
 -- the row of the last task
 abbrev pub lastRow : Tally → ℕ
 lastRow t = place (t .tasks - 1) taskWidth
-
--- where a `run` stands in a row after so many locks
-unfoldable pub runPlace : ℕ → ℕ
-runPlace n = cond (eqb n 0) 3 (place n lockWidth + 4)
 
 unfoldable pub runPut : Tally → Said → List ℕ → List ℕ
 runPut t s d = putIf (eqb (markIn (s .found)) 9) d (lastRow t + runPlace (t .locks)) (s .a)

@@ -19,10 +19,12 @@ use Rattle.tables.specs.Layout.{vcpuCells, mutexCells, openCells, vcpuWidth, mu
 use Rattle.tables.specs.FlatLaws.{each-of, flat-length}
 use Rattle.lines.specs.declared.Said.{Said}
 use Rattle.tallies.specs.declared.Tally.{Tally}
-use Rattle.tallies.specs.Tally.{markOf, most, bumped, tallyBy, blank}
+use Rattle.tables.specs.Places.{most}
+use Rattle.tallies.specs.Tally.{markOf, bumped, tallyBy, blank}
 use Rattle.tallies.specs.ItemLaws.{sayOf, WrittenItem, said-line, pick, vcpus-picked, mutexes-picked, opens-picked, vcpus-long, mutexes-long, opens-long}
 use Rattle.tallies.specs.TallyLaws.{bumped-more}
-use Rattle.filler.specs.Fill.{place, putIf, vcpuPut, mutexPut, openPut, filledBy}
+use Rattle.tables.specs.Places.{place}
+use Rattle.filler.specs.Fill.{putIf, vcpuPut, mutexPut, openPut, filledBy}
 
 -- FROM LINES TO ITEMS
 

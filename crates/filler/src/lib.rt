@@ -1,20 +1,10 @@
 // The rows of a plan's lines: their cells in lent tables. What they mean stands in specs/Fill.
 use lines::Said;
-use tallies::MOST;
 use tallies::Tally;
 ghost use mathlib.Core.Path.{_≡_};
-ghost use mathlib.Core.Bool.{true};
-ghost use Prim.Native.Nat.{_+_, _-_, _*_, _<_, _≤_};
+ghost use Prim.Native.Nat.{_≤_};
 ghost use Rattle.laws.specs.Rows.{Is};
 ghost use Rattle.filler.specs.Fill as fills;
-
-// Where row i of a table begins whose rows have w numbers.
-fn place(i: usize, w: usize) -> usize
-    requires { ⌜ w ≤ 29 ⌝ }
-    ensures { λ r. ⌜ Is r (fills.place i w) 3712 ⌝ }
-{
-    if i < MOST { i * w } else { 0 }
-}
 
 // Writes x at k where the test holds, if there is such a place.
 fn put(on: bool, d: &mut [u64], k: usize, x: u64)
@@ -41,7 +31,7 @@ fn put_vcpu(t: Tally, s: Said, d: &mut [u64])
     ensures { λ r. ⌜ now (d .exit) ≡ fills.vcpuPut t s (now (d .entry)) ⌝ }
 {
     let on = tallies::mark_in(s) == 5;
-    let k = place(t.vcpus, 5);
+    let k = tables::place(t.vcpus, 5);
     put_two(on, d, k, s.a, s.b);
     put_two(on, d, k + 2, s.c, s.d);
     put(on, d, k + 4, s.e);
@@ -52,7 +42,7 @@ fn put_mutex(t: Tally, s: Said, d: &mut [u64])
     ensures { λ r. ⌜ now (d .exit) ≡ fills.mutexPut t s (now (d .entry)) ⌝ }
 {
     let on = tallies::mark_in(s) == 6;
-    put_two(on, d, place(t.mutexes, 2), s.a, s.b);
+    put_two(on, d, tables::place(t.mutexes, 2), s.a, s.b);
 }
 
 // What a line writes of opens.
@@ -60,7 +50,7 @@ fn put_open(t: Tally, s: Said, d: &mut [u64])
     ensures { λ r. ⌜ now (d .exit) ≡ fills.openPut t s (now (d .entry)) ⌝ }
 {
     let on = tallies::mark_in(s) == 7;
-    put_two(on, d, place(t.opens, 2), s.a, s.b);
+    put_two(on, d, tables::place(t.opens, 2), s.a, s.b);
 }
 
 // Writes n zeros from k on.
@@ -88,17 +78,10 @@ fn last_row(t: Tally) -> usize
 {
     let n = t.tasks;
     if n == 0 {
-        place(0, 29)
+        tables::place(0, 29)
     } else {
-        place(n - 1, 29)
+        tables::place(n - 1, 29)
     }
-}
-
-// Where a run stands in a task's row after n locks.
-fn run_place(n: usize) -> usize
-    ensures { λ r. ⌜ Is r (fills.runPlace n) 3716 ⌝ }
-{
-    if n == 0 { 3 } else { place(n, 3) + 4 }
 }
 
 // What the first line of a task writes.
@@ -106,7 +89,7 @@ fn put_task(t: Tally, s: Said, d: &mut [u64])
     ensures { λ r. ⌜ now (d .exit) ≡ fills.taskLinePut t s (now (d .entry)) ⌝ }
 {
     let on = tallies::mark_in(s) == 8;
-    let k = place(t.tasks, 29);
+    let k = tables::place(t.tasks, 29);
     wipe(d, k, width_if(on));
     put_two(on, d, k, s.a, s.b);
     put(on, d, k + 2, s.c);
@@ -117,7 +100,7 @@ fn put_run(t: Tally, s: Said, d: &mut [u64])
     ensures { λ r. ⌜ now (d .exit) ≡ fills.runPut t s (now (d .entry)) ⌝ }
 {
     let on = tallies::mark_in(s) == 9;
-    put(on, d, last_row(t) + run_place(t.locks), s.a);
+    put(on, d, last_row(t) + tables::run_place(t.locks), s.a);
 }
 
 // What a lock writes: one lock more, its mutex and its ticks.
@@ -126,7 +109,7 @@ fn put_lock(t: Tally, s: Said, d: &mut [u64])
 {
     let on = tallies::mark_in(s) == 10;
     let k = last_row(t);
-    let j = place(t.locks, 3);
+    let j = tables::place(t.locks, 3);
     put(on, d, k + 4, tallies::bump(true, t.locks) as u64);
     put_two(on, d, k + 5 + j, s.a, s.b);
 }

@@ -33,11 +33,10 @@ fault-told t i e h l m n = cc
 
 -- the fault of a VCPU, from its parts
 pub vcpu-told :
-    (t : Seen) (v g c b p : ℕ) {x₁ x₂ x₃ x₄ x₅ : Bool} {f r : Fault} →
-    x₁ ≡ within v 1 maxV → x₂ ≡ within g 1 maxGuest → x₃ ≡ within c 0 maxCore → x₄ ≡ within p 1 maxPeriod → x₅ ≡ within b 1 p →
-    f ≡ unless (ltb (t .vcpu) v) Order Clear → r ≡ unless (x₁ && (x₂ && (x₃ && (x₄ && x₅)))) Range f → r ≡ vcpuFault t v g c b p
-unfolding vcpuFault vcpuFits
-vcpu-told t v g c b p e₁ e₂ e₃ e₄ e₅ h k = rw (k, h, e₁, e₂, e₃, e₄, e₅)
+    (t : Seen) (v g c b p : ℕ) {x : Bool} {f r : Fault} →
+    x ≡ vcpuFits (record { v = v; guest = g; core = c; budget = b; period = p }) → f ≡ unless (ltb (t .vcpu) v) Order Clear → r ≡ unless x Range f → r ≡ vcpuFault t v g c b p
+unfolding vcpuFault
+vcpu-told t v g c b p e h k = rw (k, h, e)
 
 -- the fault of a lock, from its parts
 pub lock-told :

@@ -1,6 +1,5 @@
 // What is wrong with an item of a plan, a kind and its numbers, after those before it. What it means stands in the crate coded.
 use coded::GLOBAL;
-use coded::MAX_CORE;
 use coded::MAX_GUEST;
 use coded::MAX_LENGTH;
 use coded::MAX_LOCKS;
@@ -12,6 +11,7 @@ use coded::MAX_V;
 use coded::Seen;
 use coded::ranged;
 use coded::slot;
+use coded::vcpu_fits;
 use model::Fault;
 use model::Kind;
 use model::Refusal;
@@ -79,12 +79,8 @@ fn rises(a: u64, b: u64, c: u64, d: u64) -> bool
 fn vcpu_fault(t: Seen, v: u64, guest: u64, core: u64, budget: u64, period: u64) -> Fault
     ensures { λ r. ⌜ r ≡ coded.vcpuFault t v guest core budget period ⌝ }
 {
-    let range = within(v, 1, MAX_V)
-        & (within(guest, 1, MAX_GUEST)
-            & (within(core, 0, MAX_CORE)
-                & (within(period, 1, MAX_PERIOD) & within(budget, 1, period))));
     unless(
-        range,
+        vcpu_fits(v, guest, core, budget, period),
         Refusal::Range,
         unless(t.vcpu < v, Refusal::Order, Fault::Clear),
     )

@@ -13,7 +13,7 @@ ghost use Rattle.writers.specs.declared.TextAnswer.the-variants.{Written, Refus
 ghost use Rattle.writers.specs.Into.{textAnswer, textAfter};
 ghost use Rattle.order.specs.Ordered.{Ordered};
 ghost use Rattle.told.specs.Read.{AnswersIn};
-ghost use Rattle.lister.specs.Asked.{listingAsked, listingLeft};
+ghost use Rattle.asked.specs.Asked.{listingAsked, listingLeft};
 
 // Has a buffer of `room` bytes room for the listing?
 fn roomy(

@@ -14,7 +14,7 @@ use Rattle.entries.specs.Asked.{vcpuRowOf, waitRowOf, taskRowOf, responseRowOf,
 use Rattle.listing.specs.Listing.{listing}
 use Rattle.writers.specs.declared.TextAnswer.the-variants.{Refused}
 use Rattle.writers.specs.Into.{textAnswer, textAfter}
-use Rattle.lister.specs.Asked.{listingAsked, listingLeft}
+use Rattle.asked.specs.Asked.{listingAsked, listingLeft}
 use Rattle.records.specs.declared.Task.{Task}
 use Rattle.records.specs.Sheet.{cutTo, tablesOf}
 use Rattle.sheets.specs.Replies.{Question, IsGiven, VcpuTime, WaitTime, TaskTime, SectionResponse, Given, Row, TaskRow, Figure, replyTo}

@@ -8,7 +8,7 @@ use writers::TextAnswer;
 ghost use mathlib.Core.Path.{_≡_};
 ghost use Prim.Native.Nat.{_≤_};
 ghost use lib.ListN.{length, take};
-ghost use Rattle.lister.specs.Asked.{listingAsked, listingLeft};
+ghost use Rattle.asked.specs.Asked.{listingAsked, listingLeft};
 ghost use Rattle.records.specs.Sheet.{tablesOf};
 ghost use Rattle.sheets.specs.Replies.{replyTo};
 

@@ -5,3 +5,4 @@ pub mod LayoutLaws
 pub mod RisingLaws
 pub mod GivenLaws
 pub mod Sound
+pub mod Places

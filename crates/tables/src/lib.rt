@@ -3,8 +3,14 @@ use model::Fault;
 use model::OverrunChoice;
 use model::Policy;
 ghost use mathlib.Core.Path.{_≡_};
+ghost use Prim.Native.Nat.{_≤_};
 ghost use lib.ListN.{getD};
+ghost use Rattle.laws.specs.Rows.{Is};
 ghost use Rattle.tables.specs.Given.{isClear};
+ghost use Rattle.tables.specs.Places as places;
+
+// No more rows of a table are counted.
+pub const MOST: usize = 128;
 
 // The plan record: the policy, the overrun choice, and how many rows of each table are the plan's.
 pub struct PlanRecord {
@@ -31,4 +37,19 @@ pub fn is_clear(f: Fault) -> bool
         Fault::Clear => true,
         Fault::Bad(_) => false,
     }
+}
+
+// Where row i of a table begins whose rows have w numbers.
+pub fn place(i: usize, w: usize) -> usize
+    requires { ⌜ w ≤ 29 ⌝ }
+    ensures { λ r. ⌜ Is r (places.place i w) 3712 ⌝ }
+{
+    if i < MOST { i * w } else { 0 }
+}
+
+// Where a run stands in a task's row after n locks.
+pub fn run_place(n: usize) -> usize
+    ensures { λ r. ⌜ Is r (places.runPlace n) 3716 ⌝ }
+{
+    if n == 0 { 3 } else { place(n, 3) + 4 }
 }

@@ -14,6 +14,7 @@ use Rattle.model.specs.declared.OverrunChoice.{OverrunChoice}
 use Rattle.model.specs.declared.OverrunChoice.the-variants.{WithOverrun, WithoutOverrun}
 use Rattle.lines.specs.declared.Said.{Said}
 use Rattle.lines.specs.Said.{saidOf}
+use Rattle.tables.specs.Places.{most}
 use Rattle.tables.specs.declared.PlanRecord.{PlanRecord}
 pub use Rattle.tallies.specs.declared.Tally.{Tally}
 
@@ -44,10 +45,6 @@ markIn Nothing = 0
 markIn (Is k) = markOf k
 
 -- THE TALLY
-
--- no more rows of a table are counted: a valid plan has no more
-abbrev pub most : ℕ
-most = 128
 
 -- one more where the test holds, up to the most
 unfoldable pub bumped : Bool → ℕ → ℕ

@@ -4,12 +4,10 @@ use model::Found;
 use model::Kind;
 use model::OverrunChoice;
 use model::Policy;
+use tables::MOST;
 use tables::PlanRecord;
 ghost use mathlib.Core.Path.{_≡_};
 ghost use Rattle.tallies.specs.Tally as tallies;
-
-// No more rows of a table are counted.
-pub const MOST: usize = 128;
 
 // What some lines say: the policy, the overrun choice, the rows of each table, and the locks of the last task.
 pub struct Tally {

@@ -4,11 +4,9 @@ use Rattle.judge.proofs.vcpu_fault.Statement.{statement}
 use Rattle.judge.proofs.vcpu_fault.Tie as tie
 
 returns : tie.Need-returns
-returns c =
-    vcpu-told _ _ _ _ _ _ (c .before .before .before .before .before .before .before .within .ensures) (c .before .before .before .before .before .before .within2 .ensures) (c .before .before .before .before .before .within3 .ensures) (c .before .before .before .before .within4 .ensures)
-    (c .before .before .before .within5 .ensures) (c .before .unless .ensures) (c .unless2 .ensures)
+returns c = vcpu-told _ _ _ _ _ _ (c .before .before .before .vcpu-fits .ensures) (c .before .unless .ensures) (c .unless2 .ensures)
 
 pub vcpu-fault-spec : {M : Type 1} → statement M
 vcpu-fault-spec =
     tie.close
-    (tie.spec (λ c κs. search needs) (λ c κs. search needs) (λ c κs. search needs) (λ c κs. search needs) (λ c κs. search needs) (λ c κs. search needs) (λ c κs. search needs) returns)
+    (tie.spec (λ c κs. search needs) (λ c κs. search needs) (λ c κs. search needs) returns)

@@ -2,7 +2,7 @@
 use mathlib.Core.Path.{_∙_, sym}
 use borrow.Author.Tests.{not-true, not-false}
 use Rattle.checker.specs.FitLaws.{given-fit}
-use Rattle.lister.specs.AskedLaws.{foreign-answer, foreign-left, given-answer, given-left}
+use Rattle.asked.specs.AskedLaws.{foreign-answer, foreign-left, given-answer, given-left}
 use borrow.Author.Needs.{needs}
 use Rattle.lister.proofs.write_listing.Statement.{statement}
 use Rattle.lister.proofs.write_listing.Tie as tie

@@ -7,7 +7,7 @@ use types.Run.{load as read}
 use denote.Memory.{mem as inMem}
 use denote.Enum.Laws as EL
 use denote.Struct.Laws as LL
-use Rattle.lister.specs.Asked.{listingAsked, listingLeft}
+use Rattle.asked.specs.Asked.{listingAsked, listingLeft}
 use Rattle.sheets.specs.FaceLaws.{listing-cut, left-cut}
 use Rattle.records.specs.declared.Task.{Task}
 use Rattle.records.specs.Sheet.{noRows, sheetRows, cutTo}

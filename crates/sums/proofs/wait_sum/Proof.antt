@@ -11,8 +11,8 @@ use Rattle.tables.specs.Layout.{lockRow, taskRow}
 use Rattle.checker.specs.CostLaws.{over-locks}
 use borrow.Author.Needs.{needs}
 use native.Mathlib.Omega.{arith}
-use Rattle.answers.proofs.wait_sum.Statement.{statement}
-use Rattle.answers.proofs.wait_sum.Tie as tie
+use Rattle.sums.proofs.wait_sum.Statement.{statement}
+use Rattle.sums.proofs.wait_sum.Tie as tie
 
 pub wait-sum-spec : {M : Type 1} → statement M
 unfolding remoteWaits

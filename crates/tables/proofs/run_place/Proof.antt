@@ -1,12 +1,12 @@
--- `filler::run_place` meets its contract.
+-- `tables::run_place` meets its contract.
 use Prim.Native.Nat.{_+_}
 use mathlib.Core.Path.{ap}
 use native.Mathlib.Omega.{arith}
 use borrow.Author.Tests.{eq-eqb, ne-eqb}
 use borrow.Author.Needs.{needs}
-use Rattle.filler.specs.Fill.{runPlace}
-use Rattle.filler.proofs.run_place.Statement.{statement}
-use Rattle.filler.proofs.run_place.Tie as tie
+use Rattle.tables.specs.Places.{runPlace}
+use Rattle.tables.proofs.run_place.Statement.{statement}
+use Rattle.tables.proofs.run_place.Tie as tie
 
 returns : tie.Need-returns
 unfolding runPlace

@@ -11,8 +11,8 @@ use Rattle.tables.specs.Layout.{lockRow, taskRow}
 use borrow.Author.Needs.{needs}
 use mathlib.Core.Bool.{_&&_}
 use native.Mathlib.Omega.{arith}
-use Rattle.answers.proofs.is_lacking.Statement.{statement}
-use Rattle.answers.proofs.is_lacking.Tie as tie
+use Rattle.sums.proofs.is_lacking.Statement.{statement}
+use Rattle.sums.proofs.is_lacking.Tie as tie
 
 pub is-lacking-spec : {M : Type 1} → statement M
 unfolding lacksWait

@@ -9,8 +9,8 @@ use borrow.Author.Needs.{needs}
 use lib.ListN.{length, length-set}
 use mathlib.Core.Path.{_≡_, refl}
 use native.Mathlib.Omega.{arith}
-use Rattle.answers.proofs.fill_sums.Statement.{statement}
-use Rattle.answers.proofs.fill_sums.Tie as tie
+use Rattle.sums.proofs.fill_sums.Statement.{statement}
+use Rattle.sums.proofs.fill_sums.Tie as tie
 
 pub fill-sums-spec : {M : Type 1} → statement M
 fill-sums-spec =

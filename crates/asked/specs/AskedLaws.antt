@@ -14,7 +14,7 @@ use Rattle.listing.specs.Listing.{listing}
 use Rattle.writers.specs.declared.TextAnswer.{TextAnswer}
 use Rattle.writers.specs.declared.TextAnswer.the-variants.{Refused}
 use Rattle.writers.specs.Into.{textAnswer, textAfter}
-use Rattle.lister.specs.Asked.{listingAsked, listingLeft}
+use Rattle.asked.specs.Asked.{listingAsked, listingLeft}
 
 -- one of two things, by a test
 abbrev chosen : {A : Type 0} → Bool → A → A → A

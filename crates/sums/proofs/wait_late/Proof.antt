@@ -5,8 +5,8 @@ use Rattle.tables.specs.Layout.{lockRow}
 use borrow.Author.Needs.{needs}
 use mathlib.Core.Path.{_∙_, ap, refl}
 use native.Mathlib.Omega.{arith}
-use Rattle.answers.proofs.wait_late.Statement.{statement}
-use Rattle.answers.proofs.wait_late.Tie as tie
+use Rattle.sums.proofs.wait_late.Statement.{statement}
+use Rattle.sums.proofs.wait_late.Tie as tie
 
 pub wait-late-spec : {M : Type 1} → statement M
 unfolding lockRow

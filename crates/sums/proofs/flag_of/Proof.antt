@@ -1,8 +1,8 @@
 -- `flag_of` meets its contract.
 use Rattle.laws.specs.Choice.{when}
 use native.Mathlib.Omega.{arith}
-use Rattle.answers.proofs.flag_of.Statement.{statement}
-use Rattle.answers.proofs.flag_of.Tie as tie
+use Rattle.sums.proofs.flag_of.Statement.{statement}
+use Rattle.sums.proofs.flag_of.Tie as tie
 
 pub flag-of-spec : {M : Type 1} → statement M
 unfolding when

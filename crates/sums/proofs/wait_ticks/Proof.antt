@@ -3,8 +3,8 @@ use Rattle.checker.specs.Places.{ticks-read}
 use Rattle.tables.specs.Layout.{taskRow}
 use borrow.Author.Needs.{needs}
 use native.Mathlib.Omega.{arith}
-use Rattle.answers.proofs.wait_ticks.Statement.{statement}
-use Rattle.answers.proofs.wait_ticks.Tie as tie
+use Rattle.sums.proofs.wait_ticks.Statement.{statement}
+use Rattle.sums.proofs.wait_ticks.Tie as tie
 
 pub wait-ticks-spec : {M : Type 1} → statement M
 unfolding taskRow

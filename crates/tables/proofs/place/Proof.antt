@@ -1,11 +1,11 @@
--- `filler::place` meets its contract.
+-- `tables::place` meets its contract.
 use Prim.Native.Nat.{_*_, _≤_}
 use native.Mathlib.Omega.{arith}
 use native.Mathlib.Nat.{mul-le-mul}
 use borrow.Author.Tests.{lt-ltb, le-ltb}
-use Rattle.filler.specs.Fill.{place}
-use Rattle.filler.proofs.place.Statement.{statement}
-use Rattle.filler.proofs.place.Tie as tie
+use Rattle.tables.specs.Places.{place}
+use Rattle.tables.proofs.place.Statement.{statement}
+use Rattle.tables.proofs.place.Tie as tie
 
 small : (c : tie.Then1) → c .before .args .i * c .before .args .w ≤ 128 * 29
 small c = let l : c .before .args .i ≤ 128 = omega arith in mul-le-mul l (c .before .pre)

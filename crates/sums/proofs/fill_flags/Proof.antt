@@ -11,8 +11,8 @@ use borrow.Author.Needs.{needs}
 use lib.ListN.{length, length-set}
 use mathlib.Core.Path.{_≡_, ap, refl}
 use native.Mathlib.Omega.{arith}
-use Rattle.answers.proofs.fill_flags.Statement.{statement}
-use Rattle.answers.proofs.fill_flags.Tie as tie
+use Rattle.sums.proofs.fill_flags.Statement.{statement}
+use Rattle.sums.proofs.fill_flags.Tie as tie
 
 pub fill-flags-spec : {M : Type 1} → statement M
 fill-flags-spec =
