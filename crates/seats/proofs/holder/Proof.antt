@@ -1,4 +1,5 @@
-use mathlib.Core.Path.{refl}
+use mathlib.Core.Path.{refl, ap, _∙_}
+use lib.ListN.{getD}
 use Rattle.seats.specs.SeatLaws.{past}
 use borrow.Author.Needs.{needs}
 use Rattle.seats.proofs.holder.Statement.{statement}
@@ -10,4 +11,4 @@ returns-2 c = rw (c .before .sub .ensures) at (past 0 (c .before .before .before
 pub holder-spec : {M : Type 1} → statement M
 holder-spec =
     tie.close
-    (tie.spec (λ c κs. search needs) (λ c. search needs) (λ c. search needs) (λ c κs. search needs) (λ c. cc) returns-2)
+    (tie.spec (λ c κs. search needs) (λ c. search needs) (λ c. search needs) (λ c κs. search needs) (λ c. c .wide16 .ensures ∙ ap (λ k. getD (c .before .before .before .before .before .args .a .now) k 0) (c .before .before .before .sub .ensures)) returns-2)

@@ -1,4 +1,6 @@
-use mathlib.Core.Path.{refl}
+use Prim.Native.Nat.{_-_}
+use mathlib.Core.Path.{refl, ap, _∙_}
+use lib.ListN.{getD}
 use Rattle.seats.specs.SeatLaws.{past}
 use borrow.Author.Needs.{needs}
 use Rattle.seats.proofs.kept_wait.Statement.{statement}
@@ -9,4 +11,4 @@ returns-2 c = rw (c .before .sub .ensures, c .before .before .seat .ensures .0) 
 
 pub kept-wait-spec : {M : Type 1} → statement M
 kept-wait-spec =
-    tie.close (tie.spec (λ c κs. search needs) (λ c κs. search needs) (λ c. search needs) (λ c. cc) returns-2)
+    tie.close (tie.spec (λ c κs. search needs) (λ c κs. search needs) (λ c. search needs) (λ c. ap (λ k. getD (c .before .before .before .before .before .args .a .now) k 0) (c .before .before .sub .ensures ∙ ap (λ s. s - 1) (c .before .before .before .seat .ensures .0))) returns-2)
