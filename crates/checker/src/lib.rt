@@ -1,4 +1,4 @@
-// The whole plan, worked out once into number slices (specs/Store).
+// The whole plan, worked out once into number slices: its figures (specs/Stored), its answers (specs/Store, specs/Filled), and the rows of its searches (specs/Costs).
 ghost use Prim.Native.Nat.{_+_, _*_, _≤_};
 ghost use lib.ListN.{length};
 ghost use Rattle.checker.specs.Costs.{Added};

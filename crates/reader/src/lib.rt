@@ -1,4 +1,4 @@
-// The reader: any bytes into lent tables by `read_plan`, whose refusals change nothing that was lent; the loop below it is `read_lines`. What `read_plan` answers stands in specs/Into.
+// The reader: any bytes into lent tables by `read_plan`, whose refusals change nothing that was lent; the loop below it is `read_lines` (linewise). What `read_plan` answers stands in specs/Into of the plans.
 use plans::PlanAnswer;
 ghost use mathlib.Core.Path.{_≡_};
 ghost use Rattle.laws.specs.Bytes.{pieces};

@@ -1,4 +1,4 @@
-// Every figure of a plan, worked out once into lent slices. Where each stands is said in specs/Stored.
+// Every figure of a plan, worked out once into lent slices. Where each stands is said in the checker's specs/Stored.
 use model::OverrunChoice;
 use model::Policy;
 use tables::PlanRecord;

@@ -1,4 +1,4 @@
-// The searches of tasks, and the answers of a whole plan.
+// The searches of tasks, over rows that are written once for each search.
 use figures::TaskAnswer;
 use search::Answer;
 use tables::PlanRecord;

@@ -1,4 +1,4 @@
-// The searches of a plan: VCPUs, waits and tasks, over rows that are written once for each search.
+// The searches of VCPUs, over rows that are written once for each search. What the rows are stands in the checker's specs/Costs.
 use model::Policy;
 use search::Answer;
 use tables::PlanRecord;

@@ -1,4 +1,4 @@
-// The answers of VCPUs and of waits, stored one after the other.
+// The answers of VCPUs and of waits, one after the other into lent slices. What stands where is said in the checker's specs/Store.
 use search::Answer;
 use tables::PlanRecord;
 ghost use mathlib.Core.Path.{_≡_};

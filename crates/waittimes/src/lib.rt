@@ -1,4 +1,4 @@
-// How long a task can wait at a lock: the rows of the demand, and its search.
+// The searches of waits: how long a task can wait at a lock, over rows that are written once for each search (the checker's specs/Costs).
 use search::Answer;
 use tables::PlanRecord;
 ghost use mathlib.Core.Path.{_≡_};
