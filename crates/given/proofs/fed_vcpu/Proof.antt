@@ -1,13 +1,13 @@
-use Rattle.model.specs.Line.{shape, size, numsOf}
-use Rattle.tables.specs.Layout.{vcpuRow}
-use Rattle.given.specs.Feed.{feeds, vcpuLines}
 use borrow.Author.Needs.{needs}
+use Rattle.given.proofs.Laws.{vcpu-fed}
 use Rattle.given.proofs.fed_vcpu.Statement.{statement}
 use Rattle.given.proofs.fed_vcpu.Tie as tie
 
 returns : tie.Need-returns
-unfolding feeds vcpuLines vcpuRow numsOf size shape
-returns c = cc
+returns c =
+    let x = c .before .before .before .before .before .before .before .args in
+    vcpu-fed (x .run) (x .t .now) (x .i) (c .before .before .before .before .before .cell .ensures) (c .before .before .before .before .cell2 .ensures)
+    (c .before .before .before .cell3 .ensures) (c .before .before .cell4 .ensures) (c .before .cell5 .ensures) (c .fed .ensures)
 
 pub fed-vcpu-spec : {M : Type 1} → statement M
 fed-vcpu-spec =

@@ -1,12 +1,15 @@
 -- `tallies::tally_by` meets its contract.
 use borrow.Author.Needs.{needs}
-use Rattle.tallies.specs.Tally.{tallyBy}
+use Rattle.tallies.proofs.Laws.{tally-told}
 use Rattle.tallies.proofs.tally_by.Statement.{statement}
 use Rattle.tallies.proofs.tally_by.Tie as tie
 
 returns : tie.Need-returns
-unfolding tallyBy
-returns c = cc
+returns c =
+    let x = c .before .before .before .before .before .before .before .args in
+    tally-told (x .t) (x .m) (c .before .before .before .before .before .before .policy-by .ensures) (c .before .before .before .before .before .overrun-by .ensures)
+    (c .before .before .before .before .bump .ensures) (c .before .before .before .bump2 .ensures) (c .before .before .bump3 .ensures)
+    (c .before .bump4 .ensures) (c .locks-by .ensures)
 
 pub tally-by-spec : {M : Type 1} → statement M
 tally-by-spec =

@@ -1,11 +1,15 @@
 use borrow.Author.Needs.{needs}
+use mathlib.Core.Path.{ap₂}
+use mathlib.Core.Bool.{_&&_}
 use Rattle.tables.specs.Given as tables
 use Rattle.tidies.proofs.roomy.Statement.{statement}
 use Rattle.tidies.proofs.roomy.Tie as tie
 
 returns : tie.Need-returns
 unfolding tables.roomy
-returns c = cc
+returns c =
+    ap₂ _&&_ (c .before .before .before .has-room .ensures)
+    (ap₂ _&&_ (c .before .before .has-room2 .ensures) (ap₂ _&&_ (c .before .has-room3 .ensures) (c .has-room4 .ensures)))
 
 pub roomy-spec : {M : Type 1} → statement M
 roomy-spec =
