@@ -1,22 +1,34 @@
 -- What holds at a known kind.
 use Prim.Native.Nat.{ℕ}
 use mathlib.Core.Path.{_≡_}
-use mathlib.Core.Bool.{Bool, _&&_}
+use mathlib.Core.Bool.{Bool, _&&_, _||_}
 use Rattle.model.specs.declared.Kind.{Kind}
 use Rattle.model.specs.Line.{Item, shape, written}
 use Rattle.model.specs.declared.Fault.{Fault}
 use Rattle.model.specs.declared.Fault.the-variants.{Clear}
 use Rattle.model.specs.Limits.{maxV, maxGuest, maxCore, maxPeriod, maxM, maxLength, maxLocks}
-use lib.Dec.{leb, ltb}
+use lib.Dec.{eqb, leb, ltb}
 use lib.ListN.{getD}
+use Rattle.model.specs.declared.Refusal.{Refusal}
 use Rattle.model.specs.declared.Refusal.the-variants.{Shape, Number, Range, Order, Missing, Outside, TooMany}
 use Rattle.model.specs.Refusals.{unless}
 use Rattle.model.specs.Rules.{within, follows, vcpuFits}
 use Rattle.model.specs.Reading.{fault}
 use Rattle.coded.specs.declared.Seen.{Seen}
 use Rattle.coded.specs.KindLaws.{told}
-use Rattle.coded.specs.Coded.{ranged, reached, vcpuFault, lockFault, ruled, coded}
+use Rattle.coded.specs.Coded.{global, slot, ranged, reached, vcpuFault, lockFault, ruled, coded}
 use Rattle.model.specs.Line.{numsOf}
+
+-- the fault of a test, from its parts
+pub test-told : (k : Refusal) {a b : Bool} {f g r : Fault} → a ≡ b → f ≡ g → r ≡ unless a k f → r ≡ unless b k g
+test-told k e h n = rw (n, h, e)
+
+-- what a lock reaches, from its parts
+pub reach-told :
+    (t : Seen) (o m : ℕ) {s x : ℕ} {w : Bool} →
+    w ≡ within o 1 maxV → s ≡ slot m (t .guest) → x ≡ getD (t .opens) s 0 →
+    ((w && eqb o (t .v)) || (eqb o global && eqb x 1)) ≡ reached t o m
+reach-told t o m e h n = rw (n, h, e)
 
 -- what is wrong with a line
 pub rule-told :

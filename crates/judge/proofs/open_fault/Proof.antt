@@ -1,11 +1,21 @@
-use Rattle.coded.specs.Coded.{openFault}
+use Rattle.coded.specs.Coded.{global, openFault}
+use mathlib.Core.Path.{ap₂, refl}
+use mathlib.Core.Bool.{_&&_}
+use lib.Dec.{eqb}
+use Rattle.model.specs.declared.Refusal.the-variants.{Range, Order, Missing}
+use Rattle.judge.proofs.Laws.{test-told}
 use borrow.Author.Needs.{needs}
 use Rattle.judge.proofs.open_fault.Statement.{statement}
 use Rattle.judge.proofs.open_fault.Tie as tie
 
 returns : tie.Need-returns
 unfolding openFault
-returns c = cc
+returns c =
+    let x = c .before .before .before in
+    let y = x .before .before .before .before in
+    let z = y .before .before .before .before in
+    let known = ap₂ (λ o h. eqb o global && eqb h 1) (y .at .ensures) (x .at2 .ensures) in
+    test-told Range (z .before .ranged .ensures) (test-told Order (z .rises .ensures) (test-told Missing known refl (c .before .before .unless .ensures)) (c .before .unless2 .ensures)) (c .unless3 .ensures)
 
 pub open-fault-spec : {M : Type 1} → statement M
 open-fault-spec =

@@ -1,9 +1,12 @@
+use Rattle.judge.proofs.Laws.{reach-told}
 use borrow.Author.Needs.{needs}
 use Rattle.judge.proofs.reaches.Statement.{statement}
 use Rattle.judge.proofs.reaches.Tie as tie
 
 returns : tie.Need-returns
-returns c = cc
+returns c =
+    let a = c .before .before .before .before .before .before .args in
+    reach-told (a .t1) (a .owner) (a .m) (c .before .before .before .before .before .within .ensures) (c .before .slot .ensures) (c .at .ensures)
 
 pub reaches-spec : {M : Type 1} → statement M
 reaches-spec =

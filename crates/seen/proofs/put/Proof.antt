@@ -1,5 +1,6 @@
 use lib.Seq.{set-out}
-use mathlib.Core.Path.{sym}
+use mathlib.Core.Path.{ap, sym}
+use lib.ListN.{set}
 use native.Mathlib.Omega.{arith}
 use Rattle.coded.specs.Coded.{byte}
 use borrow.Author.Needs.{needs}
@@ -7,7 +8,7 @@ use Rattle.seen.proofs.put.Statement.{statement}
 use Rattle.seen.proofs.put.Tie as tie
 
 returns : tie.Need-returns
-returns c = cc
+returns c = let a = c .before .before .before .args in ap (λ b. set (a .d .now) (a .i) b) (c .byte .ensures)
 
 returns-2 : tie.Need-returns-2
 returns-2 c = let a = c .before .before .args in sym (set-out (a .d .now) (a .i) (byte (a .x)) (omega arith))
