@@ -1,24 +1,20 @@
 -- `lines::said_after` meets its contract.
+use mathlib.Core.Path.{_∙_}
 use borrow.Author.Needs.{needs}
 use Rattle.laws.specs.Steps.{head-part, drop-part}
 use Rattle.model.specs.Limits.{tab}
-use Rattle.lines.specs.Code.{saidAfter}
+use Rattle.lines.proofs.Laws.{after-told}
 use Rattle.lines.proofs.said_after.Statement.{statement}
 use Rattle.lines.proofs.said_after.Tie as tie
 
 returns : tie.Need-returns
-unfolding saidAfter
 returns c =
-    let m = c .before .before .before .before in
+    let v = c .before .before in
+    let m = v .before .before in
     let u = m .before .past .result .now in
     let k = m .before .before .before in
     let t = k .before .before .before .args .t .now in
-    cc (
-      head-part tab t _ (k .cut .ensures),
-      drop-part tab t _ (k .cut .ensures),
-      head-part tab u _ (m .cut2 .ensures),
-      drop-part tab u _ (m .cut2 .ensures),
-    )
+    after-told _ _ _ (m .before .before .upto .ensures ∙ head-part tab t _ (k .cut .ensures)) (m .before .past .ensures ∙ drop-part tab t _ (k .cut .ensures)) (v .before .upto2 .ensures ∙ head-part tab u _ (m .cut2 .ensures)) (v .past2 .ensures ∙ drop-part tab u _ (m .cut2 .ensures)) (c .before .kind-at .ensures) (c .said-fields .ensures)
 
 pub said-after-spec : {M : Type 1} → statement M
 said-after-spec =

@@ -1,12 +1,13 @@
 -- `lines::said_by` meets its contract.
 use borrow.Author.Needs.{needs}
-use Rattle.lines.specs.Code.{saidBy}
+use Rattle.lines.proofs.Laws.{by-told}
 use Rattle.lines.proofs.said_by.Statement.{statement}
 use Rattle.lines.proofs.said_by.Tie as tie
 
 returns : tie.Need-returns
-unfolding saidBy
-returns c = cc
+returns c =
+    let x = c .before .before .before in
+    by-told _ _ _ _ _ _ _ _ (x .before .before .pick .ensures) (x .before .number-if .ensures) (x .number-if2 .ensures) (c .before .before .number-if3 .ensures) (c .before .number-if4 .ensures) (c .number-if5 .ensures)
 
 pub said-by-spec : {M : Type 1} → statement M
 said-by-spec =

@@ -1,4 +1,5 @@
 -- `lines::written_of` meets its contract.
+use mathlib.Core.Path.{ap, sym, _∙_}
 use borrow.Author.Needs.{needs}
 use Rattle.lines.specs.Code.{writtenBy}
 use Rattle.lines.specs.SaidLaws.{written-code}
@@ -7,7 +8,9 @@ use Rattle.lines.proofs.written_of.Tie as tie
 
 returns : tie.Need-returns
 unfolding writtenBy
-returns c = let a = c .before .args in cc (written-code (a .kind) (a .a) (a .b) (a .c) (a .d) (a .e))
+returns c =
+    let a = c .before .args in
+    ap (λ n. writtenBy n (a .a) (a .b) (a .c) (a .d) (a .e)) (c .size-of .ensures) ∙ sym (written-code (a .kind) (a .a) (a .b) (a .c) (a .d) (a .e))
 
 pub written-of-spec : {M : Type 1} → statement M
 written-of-spec = tie.close (tie.spec (λ c κs. search needs) returns)
