@@ -6,7 +6,7 @@ use mathlib.Core.Bool.{true}
 use lib.Dec.{eqb}
 use Rattle.lines.specs.declared.Said.{Said}
 use Rattle.tables.specs.Layout.{vcpuWidth, lockWidth, firstLock, taskWidth}
-use Rattle.tables.specs.Places.{place}
+use Rattle.tables.specs.RowPlaces.{place}
 use Rattle.tallies.specs.declared.Tally.{Tally}
 use Rattle.tallies.specs.Tally.{markIn, bumped}
 use Rattle.filler.specs.Fill.{putIf, putTwo, wiped, widthIf, lastRow, vcpuPut, taskLinePut, lockPut}

@@ -8,7 +8,7 @@ use Rattle.laws.specs.Bytes.{isNil}
 use Rattle.lines.specs.declared.Said.{Said}
 use Rattle.lines.specs.Said.{saidOf}
 use Rattle.tables.specs.Layout.{vcpuWidth, mutexWidth, openWidth, lockWidth, firstLock, taskWidth}
-use Rattle.tables.specs.Places.{place, runPlace}
+use Rattle.tables.specs.RowPlaces.{place, runPlace}
 use Rattle.tallies.specs.declared.Tally.{Tally}
 use Rattle.tallies.specs.Tally.{markIn, bumped, tallyAfter}
 

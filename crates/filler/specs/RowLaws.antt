@@ -19,11 +19,11 @@ use Rattle.tables.specs.Layout.{vcpuCells, mutexCells, openCells, vcpuWidth, mu
 use Rattle.tables.specs.FlatLaws.{each-of, flat-length}
 use Rattle.lines.specs.declared.Said.{Said}
 use Rattle.tallies.specs.declared.Tally.{Tally}
-use Rattle.tables.specs.Places.{most}
+use Rattle.tables.specs.RowPlaces.{most}
 use Rattle.tallies.specs.Tally.{markOf, bumped, tallyBy, blank}
 use Rattle.tallies.specs.ItemLaws.{sayOf, WrittenItem, said-line, pick, vcpus-picked, mutexes-picked, opens-picked, vcpus-long, mutexes-long, opens-long}
 use Rattle.tallies.specs.TallyLaws.{bumped-more}
-use Rattle.tables.specs.Places.{place}
+use Rattle.tables.specs.RowPlaces.{place}
 use Rattle.filler.specs.Fill.{putIf, vcpuPut, mutexPut, openPut, filledBy}
 
 -- FROM LINES TO ITEMS

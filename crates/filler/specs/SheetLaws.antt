@@ -24,10 +24,10 @@ use Rattle.tables.specs.Layout.{zeros, lockCells, taskCells, taskWidth, over}
 use Rattle.tables.specs.LayoutLaws.{Few, task-wide, zeros-length}
 use Rattle.tables.specs.FlatLaws.{flat-length}
 use Rattle.tallies.specs.declared.Tally.{Tally}
-use Rattle.tables.specs.Places.{most}
+use Rattle.tables.specs.RowPlaces.{most}
 use Rattle.tallies.specs.Tally.{markOf, bumped, locksBy, tallyBy, blank}
 use Rattle.tallies.specs.ItemLaws.{sayOf, over-vcpus, over-mutexes, over-opens, fromSections, fromOpens, fromMutexes, fromVcpus}
-use Rattle.tables.specs.Places.{place, runPlace}
+use Rattle.tables.specs.RowPlaces.{place, runPlace}
 use Rattle.filler.specs.Fill.{putIf, wiped, taskLinePut, runPut, lockPut, taskPut}
 use Rattle.filler.specs.RowLaws.{filledItems, set-right}
 

@@ -5,4 +5,4 @@ pub mod LayoutLaws
 pub mod RisingLaws
 pub mod GivenLaws
 pub mod Sound
-pub mod Places
+pub mod RowPlaces

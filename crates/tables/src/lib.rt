@@ -7,7 +7,7 @@ ghost use Prim.Native.Nat.{_≤_};
 ghost use lib.ListN.{getD};
 ghost use Rattle.laws.specs.Rows.{Is};
 ghost use Rattle.tables.specs.Given.{isClear};
-ghost use Rattle.tables.specs.Places as places;
+ghost use Rattle.tables.specs.RowPlaces as places;
 
 // No more rows of a table are counted.
 pub const MOST: usize = 128;

@@ -14,7 +14,7 @@ use Rattle.model.specs.declared.OverrunChoice.{OverrunChoice}
 use Rattle.model.specs.declared.OverrunChoice.the-variants.{WithOverrun, WithoutOverrun}
 use Rattle.lines.specs.declared.Said.{Said}
 use Rattle.lines.specs.Said.{saidOf}
-use Rattle.tables.specs.Places.{most}
+use Rattle.tables.specs.RowPlaces.{most}
 use Rattle.tables.specs.declared.PlanRecord.{PlanRecord}
 pub use Rattle.tallies.specs.declared.Tally.{Tally}
 

@@ -24,7 +24,7 @@ use Rattle.model.specs.Valid.{Valid}
 use Rattle.model.specs.ValidLaws.{valid-passes}
 use Rattle.tables.specs.Layout.{recordOf}
 use Rattle.tables.specs.Sound.{valid-vcpus, valid-mutexes, valid-opens}
-use Rattle.tables.specs.Places.{most}
+use Rattle.tables.specs.RowPlaces.{most}
 use Rattle.tallies.specs.Tally.{Tally, markOf, bumped, policyBy, overrunBy, tallyBy, tallied, blank, recordIn}
 use Rattle.tallies.specs.ItemLaws.{talliedItems, WrittenItem, lines-tallied, text-pieces, passes-written, over-vcpus, over-mutexes, over-opens, over-sections, fromSections, fromOpens, fromMutexes, fromVcpus, pick, vcpus-picked, mutexes-picked, opens-picked, tasks-picked, vcpus-long, mutexes-long, opens-long}
 

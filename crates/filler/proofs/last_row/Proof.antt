@@ -2,7 +2,7 @@
 use mathlib.Core.Path.{ap, sym, _∙_}
 use Prim.Native.Nat.{_-_}
 use borrow.Author.Needs.{needs}
-use Rattle.tables.specs.Places.{place}
+use Rattle.tables.specs.RowPlaces.{place}
 use Rattle.filler.proofs.last_row.Statement.{statement}
 use Rattle.filler.proofs.last_row.Tie as tie
 

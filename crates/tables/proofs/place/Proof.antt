@@ -3,7 +3,7 @@ use Prim.Native.Nat.{_*_, _≤_}
 use native.Mathlib.Omega.{arith}
 use native.Mathlib.Nat.{mul-le-mul}
 use borrow.Author.Tests.{lt-ltb, le-ltb}
-use Rattle.tables.specs.Places.{place}
+use Rattle.tables.specs.RowPlaces.{place}
 use Rattle.tables.proofs.place.Statement.{statement}
 use Rattle.tables.proofs.place.Tie as tie
 

@@ -4,7 +4,7 @@ use mathlib.Core.Path.{ap}
 use native.Mathlib.Omega.{arith}
 use borrow.Author.Tests.{eq-eqb, ne-eqb}
 use borrow.Author.Needs.{needs}
-use Rattle.tables.specs.Places.{runPlace}
+use Rattle.tables.specs.RowPlaces.{runPlace}
 use Rattle.tables.proofs.run_place.Statement.{statement}
 use Rattle.tables.proofs.run_place.Tie as tie
 
