@@ -360,16 +360,16 @@ impl Board {
             &self.stopped,
             &self.holder,
         );
-        let tasks = walks::all_tasks_good(view, &self.holder, &self.waits);
-        both(vcpus, both(tasks, walks::seats_good(&self.holder)))
+        let tasks = goods::all_tasks_good(view, &self.holder, &self.waits);
+        both(vcpus, both(tasks, goods::seats_good(&self.holder)))
     }
 
     // The board at first.
     pub fn fresh(view: &[u64]) -> Board
         ensures { λ r. ⌜ ((p : Policy) (o : OverrunChoice) → r ≡ fresh (factsIn p o (now (view .entry)))) ⌝ }
     {
-        let left = walks::budgets(view);
-        let over = walks::overruns(view);
+        let left = goods::budgets(view);
+        let over = goods::overruns(view);
         let stopped = [false; 16];
         let holder = [0u16; 32];
         let waits = [0u8; 128];

@@ -11,7 +11,7 @@ ghost use Rattle.laws.specs.Rows.{Is};
 ghost use Rattle.tables.specs.Layout.{vcpuRow, lockRow, taskRow};
 ghost use Rattle.figures.specs.Tabled.{Fit, systemIn};
 ghost use Rattle.figures.specs.Parts.{lowerSum, higherSum};
-ghost use Rattle.figures.specs.Figures.{higherOn, lowerTask, higherTask, longestGlobal, localBlocking, ght, load, preemption, responseBy, response};
+ghost use Rattle.figures.specs.Figures.{lowerTask, higherTask, longestGlobal, localBlocking, load, preemption, responseBy, response};
 ghost use Rattle.checker.specs.Stored.{TasksIn, BlockingsIn, VcpusIn, PreemptionsIn, sectionResponse, maxResponse, ResponsesIn, responseFor, Stored};
 
 // Writes the first four numbers of task i.
@@ -107,81 +107,6 @@ fn fill_blockings(r: PlanRecord, vt: &[u64], mt: &[u64], ts: &[u64], tf: &mut [u
         let x = local_blocking(r, vt, mt, ts, tf, i);
         tf[i * 5 + 4] = x;
         i += 1;
-    }
-}
-
-// Writes the first two numbers of VCPU a.
-fn put_vcpu(vf: &mut [u64], a: usize, x: u64, y: u64)
-    requires { ⌜ a * 3 + 3 ≤ length (now vf) ⌝ }
-    ensures { λ out. ⌜ now (vf .exit) ≡ set (set (now (vf .entry)) (a * 3) x) (a * 3 + 1) y ⌝ }
-{
-    vf[a * 3] = x;
-    vf[a * 3 + 1] = y;
-}
-
-// Stores the ght of each VCPU, and its budget with overrun.
-fn fill_vcpus(r: PlanRecord, vt: &[u64], mt: &[u64], ts: &[u64], vf: &mut [u64])
-    requires { ⌜ Fit r (now vt) (now mt) (now ts) × (48 ≤ length (now vf)) ⌝ }
-    ensures { λ out. ⌜ VcpusIn r (now (vt .entry)) (now (mt .entry)) (now (ts .entry)) (now (vf .exit)) ⌝ }
-{
-    let n = r.vcpus;
-    let o = r.overrun;
-    let mut a = 0;
-    while a < n {
-        let g = found::ght_of(r, vt, mt, ts, cells::vcpu_cell(r, vt, mt, ts, a, 0));
-        let x = cells::vcpu_cell(r, vt, mt, ts, a, 3) + found::overrun_by(o, g);
-        put_vcpu(vf, a, g, x);
-        a += 1;
-    }
-}
-
-// What VCPU b adds to the preemption of VCPU a.
-fn preempts_by(
-    r: PlanRecord,
-    vt: &[u64],
-    mt: &[u64],
-    ts: &[u64],
-    vf: &[u64],
-    a: usize,
-    b: usize,
-) -> u64
-    requires { ⌜ Fit r (now vt) (now mt) (now ts) × VcpusIn r (now vt) (now mt) (now ts) (now vf) × (a < r .vcpus) × (b < r .vcpus) ⌝ }
-    ensures { λ x. ⌜ Is x (when (higherOn (vcpuRow (now (vt .entry)) a) (vcpuRow (now (vt .entry)) b)) (ght (systemIn r (now (vt .entry)) (now (mt .entry)) (now (ts .entry))) (vcpuRow (now (vt .entry)) b .v))) 64000000 ⌝ }
-{
-    if found::is_higher_on(r, vt, mt, ts, a, b) {
-        vf[b * 3]
-    } else {
-        0
-    }
-}
-
-// The preemption of VCPU a.
-fn preemption_of(r: PlanRecord, vt: &[u64], mt: &[u64], ts: &[u64], vf: &[u64], a: usize) -> u64
-    requires { ⌜ Fit r (now vt) (now mt) (now ts) × VcpusIn r (now vt) (now mt) (now ts) (now vf) × (a < r .vcpus) ⌝ }
-    ensures { λ x. ⌜ Is x (preemption (systemIn r (now (vt .entry)) (now (mt .entry)) (now (ts .entry))) (vcpuRow (now (vt .entry)) a)) 1024000000 ⌝ }
-{
-    let n = r.vcpus;
-    let mut s: u64 = 0;
-    let mut b = 0;
-    while b < n {
-        let x = preempts_by(r, vt, mt, ts, vf, a, b);
-        s = s + x;
-        b += 1;
-    }
-    s
-}
-
-// Stores the preemption of each VCPU.
-fn fill_preemptions(r: PlanRecord, vt: &[u64], mt: &[u64], ts: &[u64], vf: &mut [u64])
-    requires { ⌜ Fit r (now vt) (now mt) (now ts) × VcpusIn r (now vt) (now mt) (now ts) (now vf) ⌝ }
-    ensures { λ out. ⌜ VcpusIn r (now (vt .entry)) (now (mt .entry)) (now (ts .entry)) (now (vf .exit)) × PreemptionsIn r (now (vt .entry)) (now (mt .entry)) (now (ts .entry)) (now (vf .exit)) ⌝ }
-{
-    let n = r.vcpus;
-    let mut a = 0;
-    while a < n {
-        let x = preemption_of(r, vt, mt, ts, vf, a);
-        vf[a * 3 + 2] = x;
-        a += 1;
     }
 }
 
@@ -340,7 +265,7 @@ pub fn stored(
 {
     fill_tasks(r, vt, mt, ts, tf);
     fill_blockings(r, vt, mt, ts, tf);
-    fill_vcpus(r, vt, mt, ts, vf);
-    fill_preemptions(r, vt, mt, ts, vf);
+    vcpufigures::fill_vcpus(r, vt, mt, ts, vf);
+    vcpufigures::fill_preemptions(r, vt, mt, ts, vf);
     fill_responses(r, vt, mt, ts, tf, vf, rf);
 }

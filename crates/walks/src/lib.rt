@@ -2,14 +2,13 @@
 use seats::both;
 use seats::either;
 use seats::no;
-use seats::pick;
 use seats::sub;
 ghost use mathlib.Core.Path.{_≡_};
 ghost use lib.Dec.{eqb};
 ghost use Prim.Native.Nat.{_≤_};
-ghost use Rattle.laws.specs.Range.{anyTo, allTo, listTo};
-ghost use Rattle.seats.specs.Seats.{seat, budgetOf, overrunOf};
-ghost use Rattle.walks.specs.Walks.{globalBy, holdsGlobal, clears, passes, lastHeld, heldGlobal, heldLocal, localUnder, rowOf, rowsOf, columnOf, rowWith, holdGood, waitGood, taskGood, tasksGood, seatGood};
+ghost use Rattle.laws.specs.Range.{anyTo};
+ghost use Rattle.seats.specs.Seats.{seat};
+ghost use Rattle.walks.specs.Walks.{globalBy, holdsGlobal, clears, passes, lastHeld, heldGlobal, heldLocal, localUnder, rowOf, rowsOf, columnOf, rowWith};
 
 // The seat h is one of v's.
 fn of_vcpu(h: u64, v: u64) -> bool
@@ -181,121 +180,4 @@ pub fn row_with(rows: [[u8; 8]; 16], w: u8) -> u64
         v -= 1;
     }
     0
-}
-
-// The conditions on what task (v, n) holds and waits for.
-fn hold_good<'a>(view: &[u64], a: &'a [u16], ws: &'a [u8], v: u64, n: u64, m: u64) -> bool
-    requires { ⌜ (v ≤ 16) × (n ≤ 8) ⌝ }
-    ensures { λ r. ⌜ r ≡ holdGood (now (view .entry)) (now (a .entry)) (now (ws .entry)) v n m ⌝ }
-{
-    if seats::holds(a, v, n, m) {
-        let free = seats::wait(ws, v, n) == 0;
-        let one = last_held(a, v, n) == m;
-        return both(seats::lists(view, v, n, m), both(free, one));
-    }
-    true
-}
-
-fn holds_good<'a>(view: &[u64], a: &'a [u16], ws: &'a [u8], v: u64, n: u64) -> bool
-    requires { ⌜ (v ≤ 16) × (n ≤ 8) ⌝ }
-    ensures { λ r. ⌜ r ≡ allTo 32 (λ m. holdGood (now (view .entry)) (now (a .entry)) (now (ws .entry)) v n m) ⌝ }
-{
-    let mut m = 0;
-    while m < 32 {
-        m += 1;
-        if !hold_good(view, a, ws, v, n, m) {
-            return false;
-        }
-    }
-    true
-}
-
-fn wait_good<'a>(view: &[u64], a: &'a [u16], ws: &'a [u8], v: u64, n: u64) -> bool
-    requires { ⌜ (v ≤ 16) × (n ≤ 8) ⌝ }
-    ensures { λ r. ⌜ r ≡ waitGood (now (view .entry)) (now (a .entry)) (now (ws .entry)) v n ⌝ }
-{
-    let w = seats::wait(ws, v, n);
-    if w == 0 {
-        return true;
-    }
-    let other = seats::held_by_other(a, v, n, w);
-    let fails = no(passes(view, a, v, n));
-    both(
-        seats::lists(view, v, n, w),
-        pick(seats::is_global(view, w), other, fails),
-    )
-}
-
-fn task_good<'a>(view: &[u64], a: &'a [u16], ws: &'a [u8], v: u64, n: u64) -> bool
-    requires { ⌜ (v ≤ 16) × (n ≤ 8) ⌝ }
-    ensures { λ r. ⌜ r ≡ taskGood (now (view .entry)) (now (a .entry)) (now (ws .entry)) v n ⌝ }
-{
-    both(wait_good(view, a, ws, v, n), holds_good(view, a, ws, v, n))
-}
-
-fn tasks_good<'a>(view: &[u64], a: &'a [u16], ws: &'a [u8], v: u64) -> bool
-    requires { ⌜ v ≤ 16 ⌝ }
-    ensures { λ r. ⌜ r ≡ tasksGood (now (view .entry)) (now (a .entry)) (now (ws .entry)) v ⌝ }
-{
-    let mut n = 0;
-    while n < 8 {
-        n += 1;
-        if !task_good(view, a, ws, v, n) {
-            return false;
-        }
-    }
-    true
-}
-
-// The conditions on what all tasks hold and wait for.
-pub fn all_tasks_good<'a>(view: &[u64], a: &'a [u16], ws: &'a [u8]) -> bool
-    ensures { λ r. ⌜ r ≡ allTo 16 (λ v. tasksGood (now (view .entry)) (now (a .entry)) (now (ws .entry)) v) ⌝ }
-{
-    let mut v = 0;
-    while v < 16 {
-        v += 1;
-        if !tasks_good(view, a, ws, v) {
-            return false;
-        }
-    }
-    true
-}
-
-// Each holder is a seat, or none.
-pub fn seats_good(a: &[u16]) -> bool
-    ensures { λ r. ⌜ r ≡ allTo 32 (λ m. seatGood (now (a .entry)) m) ⌝ }
-{
-    let mut m = 0;
-    while m < 32 {
-        m += 1;
-        if 128 < seats::holder(a, m) {
-            return false;
-        }
-    }
-    true
-}
-
-// The budgets and the overruns of the view.
-pub fn budgets(view: &[u64]) -> [u64; 16]
-    ensures { λ r. ⌜ r ≡ listTo 16 (λ v. budgetOf (now (view .entry)) v) ⌝ }
-{
-    let mut all = [0u64; 16];
-    let mut v = 0;
-    while v < 16 {
-        all[v] = seats::budget(view, v as u64 + 1);
-        v += 1;
-    }
-    all
-}
-
-pub fn overruns(view: &[u64]) -> [u64; 16]
-    ensures { λ r. ⌜ r ≡ listTo 16 (λ v. overrunOf (now (view .entry)) v) ⌝ }
-{
-    let mut all = [0u64; 16];
-    let mut v = 0;
-    while v < 16 {
-        all[v] = seats::overrun(view, v as u64 + 1);
-        v += 1;
-    }
-    all
 }
