@@ -1,24 +1,24 @@
-// The answers of a whole plan, in lent slices. What stands where is said in the checker's specs/Store.
+// The answers of a whole plan, in lent slices. What stands where is said in specs/Store of `figures_slices`.
 use figures::TaskAnswer;
-use tables::PlanRecord;
+use plan_tables::PlanRecord;
 ghost use mathlib.Core.Path.{_≡_};
 ghost use Prim.Native.Nat.{_+_, _*_, _≤_};
 ghost use lib.ListN.{length};
 ghost use Rattle.search.specs.Row.{pushed};
-ghost use Rattle.tables.specs.Layout.{over};
+ghost use Rattle.plan_tables.specs.Layout.{over};
 ghost use Rattle.figures.specs.Tabled.{Fit, systemIn};
-ghost use Rattle.checker.specs.Stored.{TasksIn, BlockingsIn, Stored};
-ghost use Rattle.checker.specs.Store.{vcpuAnswers, waitAnswers, taskAnswers};
-ghost use Rattle.tasktimes.specs.Waits.{WaitsIn};
-ghost use Rattle.told.specs.Read.{AnswersIn};
-ghost use Rattle.checker.specs.Filled.{taskKind, taskTicks, taskRounds, taskAnswerRow};
+ghost use Rattle.figures_slices.specs.Stored.{TasksIn, BlockingsIn, Stored};
+ghost use Rattle.figures_slices.specs.Store.{vcpuAnswers, waitAnswers, taskAnswers};
+ghost use Rattle.times_tasks.specs.Waits.{WaitsIn};
+ghost use Rattle.answers_told.specs.Read.{AnswersIn};
+ghost use Rattle.figures_slices.specs.Filled.{taskKind, taskTicks, taskRounds, taskAnswerRow};
 
 // What a task's answer is: 0 late, 1 fits, 2 nowait, 3 held.
 fn task_kind(a: TaskAnswer) -> u64
     ensures { λ x. ⌜ x ≡ taskKind a ⌝ }
 {
     match a {
-        TaskAnswer::Searched(b) => waits::kind_of(b),
+        TaskAnswer::Searched(b) => answers_waits::kind_of(b),
         TaskAnswer::NoWait => 2,
         TaskAnswer::Held => 3,
     }
@@ -29,7 +29,7 @@ fn task_ticks(a: TaskAnswer) -> u64
     ensures { λ x. ⌜ x ≡ taskTicks a ⌝ }
 {
     match a {
-        TaskAnswer::Searched(b) => waits::ticks_of(b),
+        TaskAnswer::Searched(b) => answers_waits::ticks_of(b),
         TaskAnswer::NoWait => 0,
         TaskAnswer::Held => 0,
     }
@@ -40,7 +40,7 @@ fn task_rounds(a: TaskAnswer) -> u64
     ensures { λ x. ⌜ x ≡ taskRounds a ⌝ }
 {
     match a {
-        TaskAnswer::Searched(b) => waits::rounds_of(b),
+        TaskAnswer::Searched(b) => answers_waits::rounds_of(b),
         TaskAnswer::NoWait => 0,
         TaskAnswer::Held => 0,
     }
@@ -75,7 +75,7 @@ fn fill_tasks(
     let n = r.tasks;
     let mut i = 0;
     while i < n {
-        let x = tasktimes::task_answer(r, vt, mt, ts, tf, ws, fs, rows, i);
+        let x = times_tasks::task_answer(r, vt, mt, ts, tf, ws, fs, rows, i);
         put_task(ta, i, x);
         i += 1;
     }
@@ -101,10 +101,10 @@ pub fn answers(
     requires { ⌜ (240 ≤ length (now rows)) × (64 ≤ length (now ws)) × (64 ≤ length (now fs)) × (48 ≤ length (now va)) × (r .tasks * 24 ≤ length (now wa)) × (r .tasks * 3 ≤ length (now ta)) ⌝ }
     ensures { λ out. ⌜ (now (va .exit) ≡ over (vcpuAnswers (systemIn r (now (vt .entry)) (now (mt .entry)) (now (ts .entry)))) (now (va .entry))) × (now (wa .exit) ≡ over (waitAnswers (systemIn r (now (vt .entry)) (now (mt .entry)) (now (ts .entry)))) (now (wa .entry))) × (now (ta .exit) ≡ over (taskAnswers (systemIn r (now (vt .entry)) (now (mt .entry)) (now (ts .entry)))) (now (ta .entry))) ⌝ }
 {
-    waits::fill_vcpus(r, vt, mt, ts, tf, vf, rows, va);
-    waits::fill_waits(r, vt, mt, ts, rf, rows, wa);
-    sums::fill_sums(r, vt, mt, ts, wa, ws);
-    sums::fill_flags(r, vt, mt, ts, wa, fs);
+    answers_waits::fill_vcpus(r, vt, mt, ts, tf, vf, rows, va);
+    answers_waits::fill_waits(r, vt, mt, ts, rf, rows, wa);
+    answers_sums::fill_sums(r, vt, mt, ts, wa, ws);
+    answers_sums::fill_flags(r, vt, mt, ts, wa, fs);
     fill_tasks(r, vt, mt, ts, tf, ws, fs, rows, ta);
 }
 
@@ -127,7 +127,7 @@ pub fn fill_answers(
     let mut rows = [0u64; 240];
     let mut ws = [0u64; 64];
     let mut fs = [0u64; 64];
-    stored::stored(r, vt, mt, ts, tf, &mut vf, rf);
+    figures_stored::stored(r, vt, mt, ts, tf, &mut vf, rf);
     answers(
         r,
         vt,

@@ -4,26 +4,26 @@ use mathlib.Core.Path.{_≡_, refl, sym, subst, _∙_}
 use mathlib.Core.Bool.{true}
 use mathlib.Core.List.{List, [], _∷_}
 use mathlib.Core.Logic.{⊎-elim}
-use Rattle.tables.specs.declared.PlanRecord.{PlanRecord}
-use Rattle.tables.specs.Layout.{Tables}
-use Rattle.tables.specs.Given.{isGiven}
-use Rattle.lockboard.specs.Facts.{Facts}
-use Rattle.lockboard.specs.declared.Board.{Board}
-use Rattle.lockboard.specs.declared.Event.{Event}
-use Rattle.lockboard.specs.declared.Event.the-variants.{Ask, Free}
-use Rattle.lockboard.specs.declared.Outcome.{Outcome}
-use Rattle.lockboard.specs.Board.{leftOf, overOf, step, good}
-use Rattle.lockboard.specs.Events.{boardAfter}
-use Rattle.keeps.specs.Cases.{bool-cases}
-use Rattle.keeps.specs.Shaped.{Shaped}
-use Rattle.keeps.specs.Ledger.{ledger}
-use Rattle.keeps.specs.LedgerLaws.{ledger-balance}
-use Rattle.keeps.specs.Locality.{Untouched, untouched, ask-local, free-local, ask-elsewhere, free-elsewhere}
-use Rattle.keeps.specs.Tested.{boardOn, fresh-board-on}
-use Rattle.keeps.specs.Runs.{step-on}
-use Rattle.boards.specs.declared.FreshAnswer.the-variants.{Made}
-use Rattle.boards.specs.Entered.{factsFrom, freshFor, stepFor}
-use Rattle.boards.specs.EnteredLaws.{runFor, step-other, step-given, fair-from, fresh-of, tested-other, run-answers}
+use Rattle.plan_tables.specs.declared.PlanRecord.{PlanRecord}
+use Rattle.plan_tables.specs.Layout.{Tables}
+use Rattle.plan_tables.specs.Given.{isGiven}
+use Rattle.board_rules.specs.Facts.{Facts}
+use Rattle.board_rules.specs.declared.Board.{Board}
+use Rattle.board_rules.specs.declared.Event.{Event}
+use Rattle.board_rules.specs.declared.Event.the-variants.{Ask, Free}
+use Rattle.board_rules.specs.declared.Outcome.{Outcome}
+use Rattle.board_rules.specs.Board.{leftOf, overOf, step, good}
+use Rattle.board_rules.specs.Events.{boardAfter}
+use Rattle.board_keeps.specs.Cases.{bool-cases}
+use Rattle.board_keeps.specs.Shaped.{Shaped}
+use Rattle.board_keeps.specs.Ledger.{ledger}
+use Rattle.board_keeps.specs.LedgerLaws.{ledger-balance}
+use Rattle.board_keeps.specs.Locality.{Untouched, untouched, ask-local, free-local, ask-elsewhere, free-elsewhere}
+use Rattle.board_keeps.specs.Tested.{boardOn, fresh-board-on}
+use Rattle.board_keeps.specs.Runs.{step-on}
+use Rattle.board_tables.specs.declared.FreshAnswer.the-variants.{Made}
+use Rattle.board_tables.specs.Entered.{factsFrom, freshFor, stepFor}
+use Rattle.board_tables.specs.EnteredLaws.{runFor, step-other, step-given, fair-from, fresh-of, tested-other, run-answers}
 
 module _ (r : PlanRecord) (t : Tables) where
   abbrev F : Facts

@@ -9,45 +9,45 @@ use lib.ListN.{length}
 use denote.Ref.{RefT}
 use Rattle.laws.specs.Bytes.{pieces}
 use Rattle.laws.specs.Once.{once}
-use Rattle.model.specs.Limits.{lf}
-use Rattle.tables.specs.declared.PlanRecord.{PlanRecord}
-use Rattle.tables.specs.Layout.{Tables}
-use Rattle.tables.specs.Given.{isGiven}
-use Rattle.coded.specs.Coded.{start}
-use Rattle.tallies.specs.Tally.{blank}
-use Rattle.filler.specs.Fill.{vcpuPut, mutexPut, openPut, taskPut}
-use Rattle.plans.specs.declared.PlanAnswer.{PlanAnswer}
-use Rattle.plans.specs.Into.{planAnswer, tablesAfter}
-use Rattle.plans.specs.Judged.{judgedFrom, linesLeft}
-use Rattle.scan.specs.declared.Line.{Line}
-use Rattle.scan.specs.declared.LineReader.{LineReader}
-use Rattle.scan.specs.declared.Step.{Step}
-use Rattle.scan.specs.Scan.{lineAt, stepAt}
-use Rattle.entries.specs.declared.RowAnswer.{RowAnswer}
-use Rattle.entries.specs.declared.TaskRowAnswer.{TaskRowAnswer}
-use Rattle.entries.specs.declared.FigureAnswer.{FigureAnswer}
-use Rattle.entries.specs.Asked.{vcpuAsked, waitAsked, taskAsked, responseAsked}
+use Rattle.plan.specs.Limits.{lf}
+use Rattle.plan_tables.specs.declared.PlanRecord.{PlanRecord}
+use Rattle.plan_tables.specs.Layout.{Tables}
+use Rattle.plan_tables.specs.Given.{isGiven}
+use Rattle.judge_coded.specs.Coded.{start}
+use Rattle.read_tally.specs.Tally.{blank}
+use Rattle.read_fill.specs.Fill.{vcpuPut, mutexPut, openPut, taskPut}
+use Rattle.read_answer.specs.declared.PlanAnswer.{PlanAnswer}
+use Rattle.read_answer.specs.Into.{planAnswer, tablesAfter}
+use Rattle.read_answer.specs.Judged.{judgedFrom, linesLeft}
+use Rattle.text_scan.specs.declared.Line.{Line}
+use Rattle.text_scan.specs.declared.LineReader.{LineReader}
+use Rattle.text_scan.specs.declared.Step.{Step}
+use Rattle.text_scan.specs.Scan.{lineAt, stepAt}
+use Rattle.answers_rows.specs.declared.RowAnswer.{RowAnswer}
+use Rattle.answers_rows.specs.declared.TaskRowAnswer.{TaskRowAnswer}
+use Rattle.answers_rows.specs.declared.FigureAnswer.{FigureAnswer}
+use Rattle.answers_rows.specs.Asked.{vcpuAsked, waitAsked, taskAsked, responseAsked}
 use Rattle.listing.specs.Listing.{verdictText}
-use Rattle.writers.specs.declared.TextAnswer.{TextAnswer}
-use Rattle.writers.specs.Into.{textAnswer, textAfter}
-use Rattle.asked.specs.Asked.{listingAsked, listingLeft}
-use Rattle.lockboard.specs.declared.Board.{Board}
-use Rattle.lockboard.specs.declared.Event.{Event}
-use Rattle.lockboard.specs.declared.Event.the-variants.{Ask, Free, Use, Top, Show}
-use Rattle.lockboard.specs.declared.Outcome.{Outcome}
-use Rattle.lockboard.specs.declared.BoardAnswer.{BoardAnswer}
-use Rattle.lockboard.specs.Facts.{Facts}
-use Rattle.lockboard.specs.Events.{boardText}
-use Rattle.events.specs.Tells.{toldInto}
-use Rattle.rooms.specs.Boarded.{answersOn}
-use Rattle.boards.specs.declared.FreshBoard.{FreshBoard}
-use Rattle.boards.specs.Entered.{freshFor, stepFor}
+use Rattle.listing_lines.specs.declared.TextAnswer.{TextAnswer}
+use Rattle.listing_lines.specs.Into.{textAnswer, textAfter}
+use Rattle.listing_asked.specs.Asked.{listingAsked, listingLeft}
+use Rattle.board_rules.specs.declared.Board.{Board}
+use Rattle.board_rules.specs.declared.Event.{Event}
+use Rattle.board_rules.specs.declared.Event.the-variants.{Ask, Free, Use, Top, Show}
+use Rattle.board_rules.specs.declared.Outcome.{Outcome}
+use Rattle.board_rules.specs.declared.BoardAnswer.{BoardAnswer}
+use Rattle.board_rules.specs.Facts.{Facts}
+use Rattle.board_rules.specs.Events.{boardText}
+use Rattle.log_answers.specs.Tells.{toldInto}
+use Rattle.desk_rooms.specs.Boarded.{answersOn}
+use Rattle.board_tables.specs.declared.FreshBoard.{FreshBoard}
+use Rattle.board_tables.specs.Entered.{freshFor, stepFor}
 use Rattle.records.specs.declared.Task.{Task}
-use Rattle.intake.specs.ReadLaws.{ReadOut}
-use Rattle.sheets.specs.declared.Question.{Question}
-use Rattle.sheets.specs.declared.Replied.{Replied}
-use Rattle.sheets.specs.Replies.{replyTo}
-use Rattle.codes.specs.Exported.{exported}
+use Rattle.records_read.specs.ReadLaws.{ReadOut}
+use Rattle.records_ask.specs.declared.Question.{Question}
+use Rattle.records_ask.specs.declared.Replied.{Replied}
+use Rattle.records_ask.specs.Replies.{replyTo}
+use Rattle.exports_codes.specs.Exported.{exported}
 
 -- an answer and what is left, two of each
 pub both-once : {A B : Type 0} {a b x : A} {u w y : B} → (a ≡ x) × (u ≡ y) → (b ≡ x) × (w ≡ y) → (a ≡ b) × (u ≡ w)
@@ -96,7 +96,7 @@ pub read-lines-once : (s : List ℕ) (t : Tables) {a b : PlanAnswer} {u w : Tabl
     (a ≡ b) × (u .vcpus ≡ w .vcpus) × (u .mutexes ≡ w .mutexes) × (u .opens ≡ w .opens) × (u .tasks ≡ w .tasks)
 read-lines-once s t = five-once
 
--- the line reader (scan): `line_at` and `next_line`, `placed` (so also `moved`), `read_line`
+-- the line reader (text_scan): `line_at` and `next_line`, `placed` (so also `moved`), `read_line`
 pub line-at-once : (s : List ℕ) (at : ℕ) {a b : Line} → a ≡ lineAt s at → b ≡ lineAt s at → a ≡ b
 line-at-once s at = once
 
@@ -126,7 +126,7 @@ module _ (r : PlanRecord) (t : Tables) where
   pub reply-once : (q : Question) {a b : Replied} → a ≡ replyTo r t q → b ≡ replyTo r t q → a ≡ b
   reply-once q = once
 
-  -- the listing into a lent buffer o (lister, sheets)
+  -- the listing into a lent buffer o (listing_write, records_ask)
   pub write-listing-once : (o : List ℕ) {a b : TextAnswer} {u w : List ℕ} →
       (a ≡ listingAsked r t o) × (u ≡ listingLeft r t o) → (b ≡ listingAsked r t o) × (w ≡ listingLeft r t o) → (a ≡ b) × (u ≡ w)
   write-listing-once o = both-once
@@ -153,7 +153,7 @@ module _ (r : PlanRecord) (t : Tables) where
   pub show-once : (b : Board) (v n : ℕ) {a c : BoardAnswer} → a ≡ stepFor r t b (Show v n) .answer → c ≡ stepFor r t b (Show v n) .answer → a ≡ c
   show-once b v n = once
 
--- the answers to events on a board (events), written into o or only counted
+-- the answers to events on a board (log_answers), written into o or only counted
 pub answers-once : (on : Bool) (F : Facts) (b : Board) (s o : List ℕ) {m n : ℕ} {u w : List ℕ} →
     (m ≡ length (answersOn F b s)) × (u ≡ toldInto on (answersOn F b s) o) → (n ≡ length (answersOn F b s)) × (w ≡ toldInto on (answersOn F b s) o) →
     (m ≡ n) × (u ≡ w)

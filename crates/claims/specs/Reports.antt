@@ -1,6 +1,6 @@
 -- "For an accepted plan a response time is reported exactly when some whole number of ticks from zero to the period is at least the demand that this number gives,
 -- and it is the smallest such number. Remote waits obey the same rule. A task whose demand rests on a wait without such a number is named so."
--- Said of what the calls answer (entries/Asked).
+-- Said of what the calls answer (answers_rows/Asked).
 use Prim.Native.Nat.{ℕ, _≤_, _<_}
 use mathlib.Core.Path.{_≡_, refl, ap, sym, _∙_}
 use mathlib.Core.Bool.{Bool, true, false, _||_, false≢true, true≢false}
@@ -16,13 +16,13 @@ use Rattle.search.specs.declared.Answer.{Answer}
 use Rattle.search.specs.declared.Answer.the-variants.{Fits, Late}
 use Rattle.search.specs.Search.{window, solve}
 use Rattle.search.specs.SearchLaws.{Answered, solve-answers}
-use Rattle.model.specs.declared.Refusal.{Refusal}
-use Rattle.model.specs.declared.Refusal.the-variants.{Foreign, Unknown}
-use Rattle.model.specs.Plan.{Vcpu, Lock, Task}
-use Rattle.model.specs.Lookup.{hasVcpu, global}
-use Rattle.tables.specs.declared.PlanRecord.{PlanRecord}
-use Rattle.tables.specs.Layout.{Tables}
-use Rattle.tables.specs.Given.{planIn, isGiven}
+use Rattle.plan.specs.declared.Refusal.{Refusal}
+use Rattle.plan.specs.declared.Refusal.the-variants.{Foreign, Unknown}
+use Rattle.plan.specs.Plan.{Vcpu, Lock, Task}
+use Rattle.plan.specs.Lookup.{hasVcpu, global}
+use Rattle.plan_tables.specs.declared.PlanRecord.{PlanRecord}
+use Rattle.plan_tables.specs.Layout.{Tables}
+use Rattle.plan_tables.specs.Given.{planIn, isGiven}
 use Rattle.figures.specs.System.{System, system}
 use Rattle.figures.specs.Figures.{vcpuAt, higherTask, vcpuDemand, waitDemand, lengths, taskDemand, response}
 use Rattle.figures.specs.Named.{hasTask, taskAt, lockAt, hasSection}
@@ -30,10 +30,10 @@ use Rattle.figures.specs.Demands.{vcpu-demand, wait-demand, task-demand}
 use Rattle.figures.specs.declared.TaskAnswer.{TaskAnswer}
 use Rattle.figures.specs.declared.TaskAnswer.the-variants.{Searched, NoWait, Held}
 use Rattle.figures.specs.Answers.{vcpuAnswer, waitAnswer, taskAnswer, isLate, remoteWaits, lacksWait, isHeld}
-use Rattle.entries.specs.declared.RowAnswer.the-variants.{Row, NoRow}
-use Rattle.entries.specs.declared.TaskRowAnswer.the-variants.{TaskRow, NoTaskRow}
-use Rattle.entries.specs.declared.FigureAnswer.the-variants.{Figure, NoFigure}
-use Rattle.entries.specs.Asked.{hasPlace, vcpuRowOf, waitRowOf, taskRowOf, responseRowOf, vcpuAsked, waitAsked, taskAsked, responseAsked}
+use Rattle.answers_rows.specs.declared.RowAnswer.the-variants.{Row, NoRow}
+use Rattle.answers_rows.specs.declared.TaskRowAnswer.the-variants.{TaskRow, NoTaskRow}
+use Rattle.answers_rows.specs.declared.FigureAnswer.the-variants.{Figure, NoFigure}
+use Rattle.answers_rows.specs.Asked.{hasPlace, vcpuRowOf, waitRowOf, taskRowOf, responseRowOf, vcpuAsked, waitAsked, taskAsked, responseAsked}
 
 -- the plan in lent tables
 abbrev pub planOf : PlanRecord → Tables → System

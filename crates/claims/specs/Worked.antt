@@ -12,33 +12,33 @@ use Rattle.laws.specs.Decimal.{digitOf, scan, starts, value, digits, decimal}
 use Rattle.search.specs.declared.Answer.{Answer}
 use Rattle.search.specs.declared.Answer.the-variants.{Fits, Late}
 use Rattle.search.specs.Search.{window, solve, recur}
-use Rattle.model.specs.declared.Policy.{Policy}
-use Rattle.model.specs.declared.Policy.the-variants.{Periodic, Deferrable}
-use Rattle.model.specs.declared.OverrunChoice.{OverrunChoice}
-use Rattle.model.specs.declared.OverrunChoice.the-variants.{WithOverrun, WithoutOverrun}
-use Rattle.model.specs.declared.Refusal.the-variants.{Supply, Asleep}
-use Rattle.model.specs.Refusals.{numberOf, unless}
-use Rattle.model.specs.Plan.{Vcpu, Lock, Task, Plan, Global, tasksOf}
-use Rattle.model.specs.Lookup.{hasVcpu, isVcpuOf, hasGuest, hasMutex, global, localTo, opened}
-use Rattle.model.specs.Line.{shape, hasShape, numbers, fieldsOf, kindIn, itemOf, lineOf, written}
-use Rattle.model.specs.Text.{text, vcpuItems, mutexItems, openItems, lockItems, taskItems, sectionItems, itemsOf, linesOf, textOf}
-use Rattle.model.specs.Rules.{phase, follows, vcpuFits, rule, learn}
-use Rattle.model.specs.Reading.{Reading, Accepts, reading, readingBy, fault, judge, lineAbove, restOf, planOf, itemsIn}
+use Rattle.plan.specs.declared.Policy.{Policy}
+use Rattle.plan.specs.declared.Policy.the-variants.{Periodic, Deferrable}
+use Rattle.plan.specs.declared.OverrunChoice.{OverrunChoice}
+use Rattle.plan.specs.declared.OverrunChoice.the-variants.{WithOverrun, WithoutOverrun}
+use Rattle.plan.specs.declared.Refusal.the-variants.{Supply, Asleep}
+use Rattle.plan.specs.Refusals.{numberOf, unless}
+use Rattle.plan.specs.Plan.{Vcpu, Lock, Task, Plan, Global, tasksOf}
+use Rattle.plan.specs.Lookup.{hasVcpu, isVcpuOf, hasGuest, hasMutex, global, localTo, opened}
+use Rattle.plan.specs.Line.{shape, hasShape, numbers, fieldsOf, kindIn, itemOf, lineOf, written}
+use Rattle.plan.specs.Text.{text, vcpuItems, mutexItems, openItems, lockItems, taskItems, sectionItems, itemsOf, linesOf, textOf}
+use Rattle.plan.specs.Rules.{phase, follows, vcpuFits, rule, learn}
+use Rattle.plan.specs.Reading.{Reading, Accepts, reading, readingBy, fault, judge, lineAbove, restOf, planOf, itemsIn}
 use Rattle.figures.specs.declared.TaskAnswer.{TaskAnswer}
 use Rattle.figures.specs.declared.TaskAnswer.the-variants.{Searched}
 use Rattle.figures.specs.System.{System, system}
 use Rattle.figures.specs.Figures.{vcpuAt, longestGlobal, globalSum, globalCount, ght, overrunOf, blockingBy, blocking, vcpuStart, vcpuDemand, load, preemption, response, waitStart, waitDemand, ceiling, longestLocal, localBlocking, lengths, taskDemand}
 use Rattle.figures.specs.Answers.{vcpuAnswer, waitAnswer, ticksOf, remoteWaits, lacksWait, isHeld, taskAnswer, allFit}
 use Rattle.listing.specs.Listing.{line, vcpuLine, waitLine, waitLines, taskLine, taskLines, rising, allLine, listing, refusedLine, verdictText}
-use Rattle.lockboard.specs.declared.Event.{Event}
-use Rattle.lockboard.specs.declared.Event.the-variants.{Ask, Free, Use}
-use Rattle.lockboard.specs.declared.Next.the-variants.{To}
-use Rattle.lockboard.specs.declared.BoardAnswer.{BoardAnswer}
-use Rattle.lockboard.specs.declared.BoardAnswer.the-variants.{Granted, Waits, Freed, Left, Refused}
+use Rattle.board_rules.specs.declared.Event.{Event}
+use Rattle.board_rules.specs.declared.Event.the-variants.{Ask, Free, Use}
+use Rattle.board_rules.specs.declared.Next.the-variants.{To}
+use Rattle.board_rules.specs.declared.BoardAnswer.{BoardAnswer}
+use Rattle.board_rules.specs.declared.BoardAnswer.the-variants.{Granted, Waits, Freed, Left, Refused}
 use Rattle.figures.specs.Named.{hasTask}
-use Rattle.lockboard.specs.Facts.{factsOf, lists}
-use Rattle.lockboard.specs.Board.{fresh, holdsGlobal, localWaiter, isBusy, supply, mustStop, settled, passes, askFault, mayHave, asked, freeFault, waiterV, waiterN, nextGlobal, freedGlobal, localN, nextLocal, freedLocal, freed, useFault, used, topFault, topped, showFault, heldGlobal, heldLocal, raisedBy, taskPriority, vcpuPriority, step}
-use Rattle.lockboard.specs.Events.{answers, eventOf, onLine, lineAnswers, answersText, boardText}
+use Rattle.board_rules.specs.Facts.{factsOf, lists}
+use Rattle.board_rules.specs.Board.{fresh, holdsGlobal, localWaiter, isBusy, supply, mustStop, settled, passes, askFault, mayHave, asked, freeFault, waiterV, waiterN, nextGlobal, freedGlobal, localN, nextLocal, freedLocal, freed, useFault, used, topFault, topped, showFault, heldGlobal, heldLocal, raisedBy, taskPriority, vcpuPriority, step}
+use Rattle.board_rules.specs.Events.{answers, eventOf, onLine, lineAnswers, answersText, boardText}
 
 -- the plan worked through, as a record
 abbrev lowLock : Lock

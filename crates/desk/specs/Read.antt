@@ -5,26 +5,26 @@ use mathlib.Core.List.{List}
 use mathlib.Core.Bool.{Bool, true, false}
 use native.Mathlib.Omega.{arith}
 use Rattle.laws.specs.Choice.{if_then_else_}
-use Rattle.model.specs.declared.Refusal.{Refusal}
-use Rattle.model.specs.declared.Refusal.the-variants.{Shape, Room}
-use Rattle.model.specs.Plan.{Plan}
-use Rattle.model.specs.Valid.{Valid}
-use Rattle.model.specs.Reading.{Reading, Accepts, Refuses, reading}
-use Rattle.model.specs.Accepted.{read-text}
-use Rattle.tables.specs.declared.PlanRecord.{PlanRecord}
-use Rattle.tables.specs.Layout.{Tables, recordOf}
-use Rattle.tables.specs.Given.{Gives, planIn, isGiven, roomy}
-use Rattle.tables.specs.GivenLaws.{plan-given}
-use Rattle.tallies.specs.Tally as tallies
-use Rattle.plans.specs.declared.PlanAnswer.{PlanAnswer}
-use Rattle.plans.specs.declared.PlanAnswer.the-variants.{Accepted, Refused}
-use Rattle.plans.specs.Into.{answerInto, planAnswer, tablesAfter}
-use Rattle.plans.specs.Judged.{isAccepted}
-use Rattle.plans.specs.Claims.{accepted-gives, accepted-given}
+use Rattle.plan.specs.declared.Refusal.{Refusal}
+use Rattle.plan.specs.declared.Refusal.the-variants.{Shape, Room}
+use Rattle.plan.specs.Plan.{Plan}
+use Rattle.plan.specs.Valid.{Valid}
+use Rattle.plan.specs.Reading.{Reading, Accepts, Refuses, reading}
+use Rattle.plan.specs.Accepted.{read-text}
+use Rattle.plan_tables.specs.declared.PlanRecord.{PlanRecord}
+use Rattle.plan_tables.specs.Layout.{Tables, recordOf}
+use Rattle.plan_tables.specs.Given.{Gives, planIn, isGiven, roomy}
+use Rattle.plan_tables.specs.GivenLaws.{plan-given}
+use Rattle.read_tally.specs.Tally as tallies
+use Rattle.read_answer.specs.declared.PlanAnswer.{PlanAnswer}
+use Rattle.read_answer.specs.declared.PlanAnswer.the-variants.{Accepted, Refused}
+use Rattle.read_answer.specs.Into.{answerInto, planAnswer, tablesAfter}
+use Rattle.read_answer.specs.Judged.{isAccepted}
+use Rattle.read_answer.specs.Claims.{accepted-gives, accepted-given}
 use Rattle.figures.specs.System.{system}
 use Rattle.figures.specs.Tabled.{systemIn, Fit}
-use Rattle.checker.specs.FitLaws.{given-fit, system-in}
-use Rattle.plans.specs.Ample.{Ample, ample-roomy}
+use Rattle.figures_slices.specs.FitLaws.{given-fit, system-in}
+use Rattle.read_answer.specs.Ample.{Ample, ample-roomy}
 
 -- AN ANSWER TAKEN APART
 abbrev pub recordIn : PlanAnswer → PlanRecord

@@ -5,29 +5,29 @@ use mathlib.Core.List.{List}
 use mathlib.Core.Bool.{Bool, true, false, _||_}
 use lib.Dec.{ltb}
 use lib.ListN.{length}
-use Rattle.model.specs.Limits.{maxInput}
-use Rattle.model.specs.declared.Refusal.{Refusal}
-use Rattle.model.specs.declared.Refusal.the-variants.{Room}
-use Rattle.model.specs.Plan.{Plan}
-use Rattle.model.specs.Reading.{Reading, reading}
-use Rattle.tables.specs.declared.PlanRecord.{PlanRecord}
-use Rattle.tables.specs.Layout.{Tables}
-use Rattle.tables.specs.Given.{planIn, isGiven}
-use Rattle.filler.specs.Fill.{vcpuPut, mutexPut, openPut, taskPut}
-use Rattle.plans.specs.declared.PlanAnswer.{PlanAnswer}
-use Rattle.plans.specs.declared.PlanAnswer.the-variants.{Accepted, Refused}
-use Rattle.plans.specs.Into.{planAnswer, tablesAfter}
-use Rattle.plans.specs.Judged.{isAccepted, linesLeft}
-use Rattle.plans.specs.Ample.{Ample, accepted-left}
+use Rattle.plan.specs.Limits.{maxInput}
+use Rattle.plan.specs.declared.Refusal.{Refusal}
+use Rattle.plan.specs.declared.Refusal.the-variants.{Room}
+use Rattle.plan.specs.Plan.{Plan}
+use Rattle.plan.specs.Reading.{Reading, reading}
+use Rattle.plan_tables.specs.declared.PlanRecord.{PlanRecord}
+use Rattle.plan_tables.specs.Layout.{Tables}
+use Rattle.plan_tables.specs.Given.{planIn, isGiven}
+use Rattle.read_fill.specs.Fill.{vcpuPut, mutexPut, openPut, taskPut}
+use Rattle.read_answer.specs.declared.PlanAnswer.{PlanAnswer}
+use Rattle.read_answer.specs.declared.PlanAnswer.the-variants.{Accepted, Refused}
+use Rattle.read_answer.specs.Into.{planAnswer, tablesAfter}
+use Rattle.read_answer.specs.Judged.{isAccepted, linesLeft}
+use Rattle.read_answer.specs.Ample.{Ample, accepted-left}
 use Rattle.figures.specs.System.{system}
 use Rattle.figures.specs.Tabled.{systemIn}
 use Rattle.listing.specs.Listing.{listing, refusedLine, readText, verdictText}
-use Rattle.lockboard.specs.Facts.{factsOf}
-use Rattle.lockboard.specs.Events.{eventsText, boardText}
-use Rattle.writers.specs.declared.TextAnswer.{TextAnswer}
-use Rattle.writers.specs.Into.{textAnswer, textAfter}
+use Rattle.board_rules.specs.Facts.{factsOf}
+use Rattle.board_rules.specs.Events.{eventsText, boardText}
+use Rattle.listing_lines.specs.declared.TextAnswer.{TextAnswer}
+use Rattle.listing_lines.specs.Into.{textAnswer, textAfter}
 use Rattle.desk.specs.Read.{recordIn, refusalIn, lineIn, accepted-is, refused-is, Lies, accepted-lies, refused-reads}
-use Rattle.rooms.specs.Boarded.{answersFor}
+use Rattle.desk_rooms.specs.Boarded.{answersFor}
 
 -- of a plan in tables, the answers to events where `on`, else its listing
 abbrev pub toldIn : Bool → PlanRecord → Tables → List ℕ → List ℕ

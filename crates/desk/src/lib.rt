@@ -1,21 +1,21 @@
 // The faces that strangers call: from any bytes to the bytes that a program prints.
-use model::Refusal;
-use plans::PlanAnswer;
-use tables::PlanRecord;
-use writers::TextAnswer;
+use listing_lines::TextAnswer;
+use plan::Refusal;
+use plan_tables::PlanRecord;
+use read_answer::PlanAnswer;
 ghost use mathlib.Core.Path.{_≡_};
 ghost use mathlib.Core.Bool.{true};
 ghost use Prim.Native.Nat.{_≤_};
 ghost use lib.ListN.{length};
-ghost use Rattle.model.specs.Reading.{reading};
-ghost use Rattle.tables.specs.Given.{isGiven};
+ghost use Rattle.plan.specs.Reading.{reading};
+ghost use Rattle.plan_tables.specs.Given.{isGiven};
 ghost use Rattle.listing.specs.Listing.{refusedLine, verdictText};
-ghost use Rattle.lockboard.specs.Events.{boardText};
-ghost use Rattle.letters.specs.Wrote.{Wrote};
-ghost use Rattle.writers.specs.Into.{textAnswer, textAfter, bytesIn};
+ghost use Rattle.board_rules.specs.Events.{boardText};
+ghost use Rattle.text_letters.specs.Wrote.{Wrote};
+ghost use Rattle.listing_lines.specs.Into.{textAnswer, textAfter, bytesIn};
 ghost use Rattle.desk.specs.Read.{recordIn, refusalIn, lineIn};
 ghost use Rattle.desk.specs.Told.{Sure, toldIn, toldOr, textFor};
-ghost use Rattle.rooms.specs.Whole.{verdictBytes, boardBytes, Counted};
+ghost use Rattle.desk_rooms.specs.Whole.{verdictBytes, boardBytes, Counted};
 
 // The record of an accepted plan; of a refused one a record without rows.
 fn record_in(a: PlanAnswer) -> PlanRecord
@@ -23,7 +23,7 @@ fn record_in(a: PlanAnswer) -> PlanRecord
 {
     match a {
         PlanAnswer::Accepted(r) => r,
-        PlanAnswer::Refused { number: _, line: _ } => tallies::record_of(tallies::blank()),
+        PlanAnswer::Refused { number: _, line: _ } => read_tally::record_of(read_tally::blank()),
     }
 }
 
@@ -52,10 +52,10 @@ fn refusal_text(x: Refusal, l: u64, out: &mut [u8]) -> TextAnswer
     ensures { λ a. ⌜ a ≡ textAnswer (refusedLine x l) (now (out .entry)) ⌝ }
     ensures { λ a. ⌜ now (out .exit) ≡ textAfter (refusedLine x l) (now (out .entry)) ⌝ }
 {
-    if out.len() < writers::refused_size(x, l) {
+    if out.len() < listing_lines::refused_size(x, l) {
         return TextAnswer::Refused(Refusal::Room);
     }
-    let n = writers::refused_line(out, x, l);
+    let n = listing_lines::refused_line(out, x, l);
     TextAnswer::Written(n)
 }
 
@@ -75,9 +75,9 @@ fn text_into(
     ensures { λ a. ⌜ now (out .exit) ≡ textAfter (toldIn on r (record { vcpus = now (vt .entry); mutexes = now (mt .entry); opens = now (ot .entry); tasks = now (ts .entry) }) (now (src .entry))) (now (out .entry)) ⌝ }
 {
     if on {
-        return logs::answers_into(r, vt, mt, ot, ts, src, out);
+        return log_text::answers_into(r, vt, mt, ot, ts, src, out);
     }
-    lister::listing_into(r, vt, mt, ts, out)
+    listing_write::listing_into(r, vt, mt, ts, out)
 }
 
 // The same for an accepted plan; for a refused one its line.
@@ -95,7 +95,7 @@ fn text_or(
     ensures { λ x. ⌜ x ≡ textAnswer (toldOr on a (record { vcpus = now (vt .entry); mutexes = now (mt .entry); opens = now (ot .entry); tasks = now (ts .entry) }) (now (src .entry))) (now (out .entry)) ⌝ }
     ensures { λ x. ⌜ now (out .exit) ≡ textAfter (toldOr on a (record { vcpus = now (vt .entry); mutexes = now (mt .entry); opens = now (ot .entry); tasks = now (ts .entry) }) (now (src .entry))) (now (out .entry)) ⌝ }
 {
-    if plans::is_accepted(a) {
+    if read_answer::is_accepted(a) {
         let r = record_in(a);
         return text_into(on, r, vt, mt, ot, ts, src, out);
     }
@@ -114,7 +114,7 @@ fn text_of(on: bool, plan: &[u8], src: &[u8], out: &mut [u8]) -> TextAnswer
     let mut mt = [0u64; 64];
     let mut ot = [0u64; 256];
     let mut ts = [0u64; 1856];
-    let a = intake::read_rows(plan, &mut vt, &mut mt, &mut ot, &mut ts);
+    let a = records_read::read_rows(plan, &mut vt, &mut mt, &mut ot, &mut ts);
     text_or(on, a, &vt, &mt, &ot, &ts, src, out)
 }
 
@@ -123,10 +123,10 @@ pub fn board_text(plan: &[u8], src: &[u8], out: &mut [u8]) -> TextAnswer
     ensures { λ x. ⌜ x ≡ textAnswer (boardText (now (plan .entry)) (now (src .entry))) (now (out .entry)) ⌝ }
     ensures { λ x. ⌜ now (out .exit) ≡ textAfter (boardText (now (plan .entry)) (now (src .entry))) (now (out .entry)) ⌝ }
 {
-    if rooms::too_large(plan.len()) {
+    if desk_rooms::too_large(plan.len()) {
         return refusal_text(Refusal::Room, 0, out);
     }
-    if rooms::too_large(src.len()) {
+    if desk_rooms::too_large(src.len()) {
         return refusal_text(Refusal::Room, 0, out);
     }
     text_of(true, plan, src, out)
@@ -137,7 +137,7 @@ pub fn verdict_text(src: &[u8], out: &mut [u8]) -> TextAnswer
     ensures { λ x. ⌜ x ≡ textAnswer (verdictText (now (src .entry))) (now (out .entry)) ⌝ }
     ensures { λ x. ⌜ now (out .exit) ≡ textAfter (verdictText (now (src .entry))) (now (out .entry)) ⌝ }
 {
-    if rooms::too_large(src.len()) {
+    if desk_rooms::too_large(src.len()) {
         return refusal_text(Refusal::Room, 0, out);
     }
     text_of(false, src, src, out)

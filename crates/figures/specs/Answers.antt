@@ -6,8 +6,8 @@ use Rattle.laws.specs.Sums.{sum, any, all}
 use Rattle.search.specs.declared.Answer.{Answer}
 use Rattle.search.specs.declared.Answer.the-variants.{Fits, Late}
 use Rattle.search.specs.Search.{solve}
-use Rattle.model.specs.Plan.{Vcpu, Lock, Task}
-use Rattle.model.specs.Lookup.{global}
+use Rattle.plan.specs.Plan.{Vcpu, Lock, Task}
+use Rattle.plan.specs.Lookup.{global}
 use Rattle.figures.specs.System.{System}
 use Rattle.figures.specs.Figures.{higherTask, vcpuStart, vcpuDemand, waitStart, waitDemand, lengths, taskDemand}
 pub use Rattle.figures.specs.declared.TaskAnswer.{TaskAnswer}

@@ -7,9 +7,9 @@ use Rattle.laws.specs.Choice.{when}
 use Rattle.laws.specs.Sums.{up, sum}
 use Rattle.laws.specs.SumLaws.{rise, sum-rises, when-rises}
 use Rattle.search.specs.Search.{Demand}
-use Rattle.model.specs.declared.Policy.{Policy}
-use Rattle.model.specs.declared.Policy.the-variants.{Periodic, Deferrable}
-use Rattle.model.specs.Plan.{Vcpu, Task}
+use Rattle.plan.specs.declared.Policy.{Policy}
+use Rattle.plan.specs.declared.Policy.the-variants.{Periodic, Deferrable}
+use Rattle.plan.specs.Plan.{Vcpu, Task}
 use Rattle.figures.specs.System.{System}
 use Rattle.figures.specs.Figures.{ght, lowerOn, higherOn, jitter, blockingBy, blocking, vcpuStart, vcpuDemand, waitStart, waitDemand, lengths, taskDemand}
 

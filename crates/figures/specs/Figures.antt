@@ -4,13 +4,13 @@ use mathlib.Core.Bool.{Bool, _&&_}
 use lib.Dec.{eqb, ltb}
 use Rattle.laws.specs.Choice.{when}
 use Rattle.laws.specs.Sums.{up, sum, greatest, any, first}
-use Rattle.model.specs.declared.Policy.{Policy}
-use Rattle.model.specs.declared.Policy.the-variants.{Periodic, Deferrable}
-use Rattle.model.specs.declared.OverrunChoice.{OverrunChoice}
-use Rattle.model.specs.declared.OverrunChoice.the-variants.{WithOverrun, WithoutOverrun}
-use Rattle.model.specs.Plan.{Vcpu, Lock, Task}
-pub use Rattle.model.specs.Plan.{noVcpu}
-use Rattle.model.specs.Lookup.{global, localTo}
+use Rattle.plan.specs.declared.Policy.{Policy}
+use Rattle.plan.specs.declared.Policy.the-variants.{Periodic, Deferrable}
+use Rattle.plan.specs.declared.OverrunChoice.{OverrunChoice}
+use Rattle.plan.specs.declared.OverrunChoice.the-variants.{WithOverrun, WithoutOverrun}
+use Rattle.plan.specs.Plan.{Vcpu, Lock, Task}
+pub use Rattle.plan.specs.Plan.{noVcpu}
+use Rattle.plan.specs.Lookup.{global, localTo}
 use Rattle.figures.specs.System.{System}
 
 -- VCPU v of the plan, which a task or a section names

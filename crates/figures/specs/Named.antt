@@ -4,10 +4,10 @@ use mathlib.Core.Bool.{Bool, _&&_}
 use lib.Dec.{eqb}
 use lib.ListN.{length, getD}
 use Rattle.laws.specs.Sums.{any, first}
-use Rattle.model.specs.Plan.{Lock, Task}
-pub use Rattle.model.specs.Plan.{noTask, noLock}
-use Rattle.model.specs.Lookup.{global}
-use Rattle.model.specs.Rules.{within}
+use Rattle.plan.specs.Plan.{Lock, Task}
+pub use Rattle.plan.specs.Plan.{noTask, noLock}
+use Rattle.plan.specs.Lookup.{global}
+use Rattle.plan.specs.Rules.{within}
 use Rattle.figures.specs.System.{System}
 
 -- task (v, n) is in the plan

@@ -7,8 +7,8 @@ use native.Mathlib.Omega.{arith}
 use lib.Dec.{eqb, eqb·suc-zero}
 use Rattle.laws.specs.Choice.{when}
 use Rattle.laws.specs.Rows.{Is}
-use Rattle.model.specs.Lookup.{isGlobal, isLocalTo}
-use Rattle.tables.specs.Layout.{ownerOf}
+use Rattle.plan.specs.Lookup.{isGlobal, isLocalTo}
+use Rattle.plan_tables.specs.Layout.{ownerOf}
 
 -- CHOICES, where b is the flag of the test
 pub is-in : {b q : Bool} {x y k : ℕ} → b ≡ q → b ≡ true → Is x y k → Is x (when q y) k

@@ -1,8 +1,8 @@
 -- A plan as the analysis and the board see it: its tasks in one list, without sections and opens, which say only where a line may reach.
 use mathlib.Core.List.{List}
-use Rattle.model.specs.declared.Policy.{Policy}
-use Rattle.model.specs.declared.OverrunChoice.{OverrunChoice}
-use Rattle.model.specs.Plan.{Vcpu, Mutex, Task, Plan, tasksOf}
+use Rattle.plan.specs.declared.Policy.{Policy}
+use Rattle.plan.specs.declared.OverrunChoice.{OverrunChoice}
+use Rattle.plan.specs.Plan.{Vcpu, Mutex, Task, Plan, tasksOf}
 
 pub record System : Type 0 where
   pub policy : Policy

@@ -5,11 +5,11 @@ use mathlib.Core.List.{List}
 use mathlib.Core.Bool.{true}
 use lib.ListN.{length, getD}
 use Rattle.laws.specs.Rows.{rows}
-use Rattle.model.specs.Limits.{maxV, maxM, maxTasks, maxLocks, maxPeriod, maxLength}
-use Rattle.model.specs.Lookup.{hasVcpu}
-use Rattle.model.specs.Valid.{VcpuValid}
-use Rattle.tables.specs.declared.PlanRecord.{PlanRecord}
-use Rattle.tables.specs.Layout.{vcpuWidth, mutexWidth, taskWidth, cell, vcpuRow, mutexRow, taskRow}
+use Rattle.plan.specs.Limits.{maxV, maxM, maxTasks, maxLocks, maxPeriod, maxLength}
+use Rattle.plan.specs.Lookup.{hasVcpu}
+use Rattle.plan.specs.Valid.{VcpuValid}
+use Rattle.plan_tables.specs.declared.PlanRecord.{PlanRecord}
+use Rattle.plan_tables.specs.Layout.{vcpuWidth, mutexWidth, taskWidth, cell, vcpuRow, mutexRow, taskRow}
 use Rattle.figures.specs.System.{System}
 
 -- the rows of the tables, as a system

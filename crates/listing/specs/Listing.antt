@@ -11,14 +11,14 @@ use Rattle.laws.specs.Bytes.{joined}
 use Rattle.laws.specs.Decimal.{decimal}
 use Rattle.search.specs.declared.Answer.{Answer}
 use Rattle.search.specs.declared.Answer.the-variants.{Fits, Late}
-use Rattle.model.specs.Limits.{maxV, maxN, maxInput, tab, lf}
-use Rattle.model.specs.declared.Refusal.{Refusal}
-use Rattle.model.specs.declared.Refusal.the-variants.{Room}
-use Rattle.model.specs.Refusals.{numberOf}
-use Rattle.model.specs.Line.{wOne, wVcpu, wTask}
-use Rattle.model.specs.Plan.{Vcpu, Lock, Task}
-use Rattle.model.specs.Lookup.{global}
-use Rattle.model.specs.Reading.{Reading, Accepts, Refuses, reading}
+use Rattle.plan.specs.Limits.{maxV, maxN, maxInput, tab, lf}
+use Rattle.plan.specs.declared.Refusal.{Refusal}
+use Rattle.plan.specs.declared.Refusal.the-variants.{Room}
+use Rattle.plan.specs.Refusals.{numberOf}
+use Rattle.plan.specs.Line.{wOne, wVcpu, wTask}
+use Rattle.plan.specs.Plan.{Vcpu, Lock, Task}
+use Rattle.plan.specs.Lookup.{global}
+use Rattle.plan.specs.Reading.{Reading, Accepts, Refuses, reading}
 use Rattle.figures.specs.System.{System, system}
 use Rattle.figures.specs.declared.TaskAnswer.{TaskAnswer}
 use Rattle.figures.specs.declared.TaskAnswer.the-variants.{Searched, NoWait, Held}

@@ -1,7 +1,7 @@
 -- What every function over records shares: a local of numbers is made, lent to `load` beside the records, and lent again to be read.
 -- Assumes nothing.
 use Rattle.records.proofs.Kit.{refl, _≡_, ℕ, arith, [], _∷_, List, length, URA, fullShare, named, Val, SProp, ent, emp, exE, snd∗, GName, Lft, Share, Fml, ftrue, fsep, flft, Memory, Routine, Heap, Atoms, sem, Fun, fact, Given, ‵, _⊛_, ⋆, _$_, _∵_, !, qed, frame, done, join, u64, sliceVal, MutSlice, ShrSlice, nothing, Contract, ensured, lasts, tripleOf, says, RefT, vint, w64, usize, Is, owned, uint-makes, lit<, fsplit, fjoin, move, drop}
-use Rattle.tables.specs.Layout.{Tables}
+use Rattle.plan_tables.specs.Layout.{Tables}
 use Rattle.records.specs.Sheet.{Task, noRows}
 use Rattle.records.proofs.Lent.{none-long}
 use Rattle.records.proofs.Task as T

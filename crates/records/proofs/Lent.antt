@@ -5,7 +5,7 @@ use lib.Dec.{T as Holds}
 use mir.Syntax.{Width, intBig}
 use mir.Val.{Fits}
 use types.Run.{Opd}
-use Rattle.tables.specs.Layout.{over}
+use Rattle.plan_tables.specs.Layout.{over}
 use Rattle.records.specs.Sheet.{Task, sheetRows, cutTo, noRows}
 use Rattle.records.specs.SheetLaws.{loaded-long, rows-long}
 

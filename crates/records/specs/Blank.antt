@@ -8,9 +8,9 @@ use lib.Seq.{take-at}
 use Rattle.laws.specs.Sums.{flat}
 use Rattle.laws.specs.Rows.{rows}
 use Rattle.laws.specs.RowLaws.{rows-length}
-use Rattle.model.specs.Limits.{maxLocks, maxTasks}
-use Rattle.tables.specs.Layout.{taskWidth, over}
-use Rattle.tables.specs.FlatLaws.{over-rows}
+use Rattle.plan.specs.Limits.{maxLocks, maxTasks}
+use Rattle.plan_tables.specs.Layout.{taskWidth, over}
+use Rattle.plan_tables.specs.FlatLaws.{over-rows}
 use Rattle.records.specs.Sheet.{Task, noLock, taskNums, sheetRows, cutTo, taskOf, saved}
 use Rattle.records.specs.SaveLaws.{nums-back}
 

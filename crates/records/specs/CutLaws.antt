@@ -11,16 +11,16 @@ use lib.Seq.{take-all, take-at, drop-append-le, length-take-le}
 use Rattle.laws.specs.Sums.{flat}
 use Rattle.laws.specs.SumLaws.{each-map, flat-append}
 use Rattle.laws.specs.BoolLaws.{both-ways}
-use Rattle.model.specs.Limits.{maxTasks}
-use Rattle.model.specs.Plan.{Plan, tasksOf}
-use Rattle.model.specs.Valid.{Valid}
-use Rattle.tables.specs.declared.PlanRecord.{PlanRecord}
-use Rattle.tables.specs.Layout.{Tables, taskWidth, taskCells, over, filled}
-use Rattle.tables.specs.FlatLaws.{flat-length}
-use Rattle.tables.specs.LayoutLaws.{task-wide}
-use Rattle.tables.specs.Given.{Gives, planIn, isGiven}
-use Rattle.tables.specs.GivenLaws.{gives-kept, valid-few, given-plan, given-exactly, plan-given}
-use Rattle.tables.specs.Sound.{given-sound}
+use Rattle.plan.specs.Limits.{maxTasks}
+use Rattle.plan.specs.Plan.{Plan, tasksOf}
+use Rattle.plan.specs.Valid.{Valid}
+use Rattle.plan_tables.specs.declared.PlanRecord.{PlanRecord}
+use Rattle.plan_tables.specs.Layout.{Tables, taskWidth, taskCells, over, filled}
+use Rattle.plan_tables.specs.FlatLaws.{flat-length}
+use Rattle.plan_tables.specs.LayoutLaws.{task-wide}
+use Rattle.plan_tables.specs.Given.{Gives, planIn, isGiven}
+use Rattle.plan_tables.specs.GivenLaws.{gives-kept, valid-few, given-plan, given-exactly, plan-given}
+use Rattle.plan_tables.specs.Sound.{given-sound}
 use Rattle.records.specs.Sheet.{Task, taskNums, sheetRows, cutTo, tablesOf}
 use Rattle.records.specs.SheetLaws.{sheet-long}
 

@@ -10,8 +10,8 @@ use lib.Seq.{drop-cons, set-at, append-snoc}
 use Rattle.laws.specs.Sums.{flat}
 use Rattle.laws.specs.Rows.{rows}
 use Rattle.laws.specs.RowLaws.{rows-length, rows-same}
-use Rattle.model.specs.Limits.{maxLocks}
-use Rattle.tables.specs.Layout.{taskWidth, lockWidth, firstLock, cell}
+use Rattle.plan.specs.Limits.{maxLocks}
+use Rattle.plan_tables.specs.Layout.{taskWidth, lockWidth, firstLock, cell}
 use Rattle.records.specs.Sheet.{Lock, Task, noTask, locksTo, taskNums, lockOf, taskOf, saved}
 
 -- A RECORD IS READ

@@ -4,8 +4,8 @@ use mathlib.Core.List.{List, [], _∷_, _++_}
 use lib.ListN.{take, drop, getD, replicate}
 use Rattle.laws.specs.Sums.{flat}
 use Rattle.laws.specs.Rows.{rows}
-use Rattle.model.specs.Limits.{maxLocks, maxTasks}
-use Rattle.tables.specs.Layout.{Tables, taskWidth, lockWidth, firstLock, cell}
+use Rattle.plan.specs.Limits.{maxLocks, maxTasks}
+use Rattle.plan_tables.specs.Layout.{Tables, taskWidth, lockWidth, firstLock, cell}
 pub use Rattle.records.specs.declared.Lock.{Lock}
 pub use Rattle.records.specs.declared.Task.{Task}
 

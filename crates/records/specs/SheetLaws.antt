@@ -14,9 +14,9 @@ use Rattle.laws.specs.Sums.{flat}
 use Rattle.laws.specs.Rows.{rows}
 use Rattle.laws.specs.RowLaws.{rows-length}
 use Rattle.laws.specs.SumLaws.{flat-append}
-use Rattle.model.specs.Limits.{maxLocks, maxTasks}
-use Rattle.tables.specs.Layout.{taskWidth, lockWidth, over}
-use Rattle.tables.specs.FlatLaws.{flat-length, each-of}
+use Rattle.plan.specs.Limits.{maxLocks, maxTasks}
+use Rattle.plan_tables.specs.Layout.{taskWidth, lockWidth, over}
+use Rattle.plan_tables.specs.FlatLaws.{flat-length, each-of}
 use Rattle.records.specs.Sheet.{Lock, Task, noLock, noTask, lockNums, locksTo, taskNums, sheetRows, cutTo, noRows}
 
 -- WRITING

@@ -4,7 +4,7 @@ ghost use mathlib.Core.List.{[], _∷_};
 ghost use Prim.Native.Nat.{_+_, _*_, _<_, _≤_, min};
 ghost use lib.ListN.{length, getD};
 ghost use lib.Seq.{sets};
-ghost use Rattle.tables.specs.Layout.{over};
+ghost use Rattle.plan_tables.specs.Layout.{over};
 ghost use Rattle.records.specs.Blank.{noTasks};
 ghost use Rattle.records.specs.Sheet.{noTask, taskNums, sheetRows, cutTo, noRows, lockOf, taskOf, saved};
 
@@ -121,9 +121,9 @@ fn lock_of(rows: &[u64], i: usize, j: usize) -> Lock
 {
     let k = i * 29 + (5 + j * 3);
     Lock {
-        m: tables::at(rows, k),
-        t: tables::at(rows, k + 1),
-        run: tables::at(rows, k + 2),
+        m: plan_tables::at(rows, k),
+        t: plan_tables::at(rows, k + 1),
+        run: plan_tables::at(rows, k + 2),
     }
 }
 
@@ -144,11 +144,11 @@ fn task_of(rows: &[u64], i: usize) -> Task
     ];
     let k = i * 29;
     Task {
-        v: tables::at(rows, k),
-        n: tables::at(rows, k + 1),
-        period: tables::at(rows, k + 2),
-        first: tables::at(rows, k + 3),
-        count: tables::at(rows, k + 4),
+        v: plan_tables::at(rows, k),
+        n: plan_tables::at(rows, k + 1),
+        period: plan_tables::at(rows, k + 2),
+        first: plan_tables::at(rows, k + 3),
+        count: plan_tables::at(rows, k + 4),
         locks: ls,
     }
 }

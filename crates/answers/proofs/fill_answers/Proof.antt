@@ -1,5 +1,5 @@
 -- `fill_answers` meets its contract.
-use Rattle.told.specs.ReadLaws.{answers-in}
+use Rattle.answers_told.specs.ReadLaws.{answers-in}
 use borrow.Author.Needs.{needs}
 use Rattle.answers.proofs.fill_answers.Statement.{statement}
 use Rattle.answers.proofs.fill_answers.Tie as tie

@@ -1,12 +1,12 @@
 -- `fill_tasks` meets its contract: the answers before this one are written.
 use Prim.Native.Nat.{_-_}
-use Rattle.checker.specs.Filled.{Filled, taskAnswerRow}
-use Rattle.checker.specs.FilledLaws.{filled-more, filled-none}
-use Rattle.checker.specs.Places.{tasks-over}
+use Rattle.figures_slices.specs.Filled.{Filled, taskAnswerRow}
+use Rattle.figures_slices.specs.FilledLaws.{filled-more, filled-none}
+use Rattle.figures_slices.specs.Places.{tasks-over}
 use Rattle.figures.specs.Answers.{taskAnswer}
 use Rattle.figures.specs.Tabled.{systemIn}
 use Rattle.laws.specs.Rows.{rows}
-use Rattle.tables.specs.Layout.{taskRow}
+use Rattle.plan_tables.specs.Layout.{taskRow}
 use borrow.Author.Needs.{needs}
 use lib.ListN.{length}
 use mathlib.Core.Path.{_∙_, _≡_, ap, refl}

@@ -1,6 +1,6 @@
 -- `put_task` meets its contract.
 use Rattle.search.specs.Row.{pushed}
-use Rattle.checker.specs.CostLaws.{row-same}
+use Rattle.figures_slices.specs.CostLaws.{row-same}
 use borrow.Author.Needs.{needs}
 use mathlib.Core.Path.{_∙_, ap}
 use Rattle.answers.proofs.put_task.Statement.{statement}

@@ -1,6 +1,6 @@
 -- `board_in` meets its contract.
 use borrow.Author.Needs.{needs}
-use Rattle.rooms.specs.Whole.{whole-wrote, wrote-counted, board-fits}
+use Rattle.desk_rooms.specs.Whole.{whole-wrote, wrote-counted, board-fits}
 use Rattle.desk.proofs.board_in.Statement.{statement}
 use Rattle.desk.proofs.board_in.Tie as tie
 

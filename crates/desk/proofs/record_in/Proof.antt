@@ -1,7 +1,7 @@
 -- `record_in` meets its contract.
 use mathlib.Core.Path.{ap, sym, _∙_}
 use borrow.Author.Needs.{needs}
-use Rattle.tallies.specs.Tally as tallies
+use Rattle.read_tally.specs.Tally as tallies
 use Rattle.desk.specs.Read.{recordIn}
 use Rattle.desk.proofs.record_in.Statement.{statement}
 use Rattle.desk.proofs.record_in.Tie as tie

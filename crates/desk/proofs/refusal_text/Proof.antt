@@ -1,7 +1,7 @@
 -- `refusal_text` meets its contract.
 use native.Mathlib.Omega.{arith}
 use borrow.Author.Needs.{needs}
-use Rattle.writers.specs.IntoLaws.{into-room, into-none}
+use Rattle.listing_lines.specs.IntoLaws.{into-room, into-none}
 use Rattle.desk.proofs.refusal_text.Statement.{statement}
 use Rattle.desk.proofs.refusal_text.Tie as tie
 

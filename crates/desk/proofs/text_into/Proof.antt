@@ -1,6 +1,6 @@
 -- `text_into` meets its contract.
 use borrow.Author.Needs.{needs}
-use Rattle.checker.specs.FitLaws.{given-fit}
+use Rattle.figures_slices.specs.FitLaws.{given-fit}
 use Rattle.desk.specs.Told.{answers-told, listing-told}
 use Rattle.desk.proofs.text_into.Statement.{statement}
 use Rattle.desk.proofs.text_into.Tie as tie

@@ -1,6 +1,6 @@
 -- `verdict_in` meets its contract.
 use borrow.Author.Needs.{needs}
-use Rattle.rooms.specs.Whole.{whole-wrote, wrote-counted, verdict-fits}
+use Rattle.desk_rooms.specs.Whole.{whole-wrote, wrote-counted, verdict-fits}
 use Rattle.desk.proofs.verdict_in.Statement.{statement}
 use Rattle.desk.proofs.verdict_in.Tie as tie
 

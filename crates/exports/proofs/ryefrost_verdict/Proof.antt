@@ -3,8 +3,8 @@ use mathlib.Core.Path.{ap, _∙_}
 use native.Mathlib.Nat.{le-refl, lt-of-le-of-lt}
 use lib.Dec.{lit<}
 use borrow.Author.Needs.{needs}
-use Rattle.rooms.specs.Whole.{verdictBytes, verdict-fits}
-use Rattle.codes.specs.Exported.{exported, answer-bound, exported-fits, read-back}
+use Rattle.desk_rooms.specs.Whole.{verdictBytes, verdict-fits}
+use Rattle.exports_codes.specs.Exported.{exported, answer-bound, exported-fits, read-back}
 use Rattle.exports.proofs.ryefrost_verdict.Statement.{statement}
 use Rattle.exports.proofs.ryefrost_verdict.Tie as tie
 

@@ -4,7 +4,7 @@
 use Rattle.records.proofs.Kit.{_*_, refl, sym, ap, subst, _≡_, _∙_, ℕ, _≤_, min, _∷_, List, length, URA, named, w64, Ty, imm, tyRef, mut, erased, Val, vunit, SProp, ent, emp, id⊢, exE, snd∗, GName, Lft, Share, ftrue, flft, fat, fsep, Fml, froom, flent, Memory, Routine, Heap, Calls, Loops, WpFn, Tables, Atoms, sem, Fun, fact, givenOf, tables, tablesOf, Given, ‵, _⊛_, ⋆, _$_, _∵_, !, qed, by, move, suffices, frame, done, split, join, rewrite, fsplit, fjoin, drop, feqI, raw, some, later, use0, use1, use2, pick, await, use3, feqL, look, init, forget, stop, fld, from, load, of-opd, assigns, returns, enter, alloc1, alloc0, params1, pass1, pass0, free1, free0, hop, lit, unit-lit, and-then, no-more, land, addr, whole, sub, look-in, agg, WpFn-mono, FmC, fmOf, owns, Is, shows, uint-makes, uint-vals, uint-tells, uint-lawful, Nothing, nothing-lawful, usize, u64, sliceVal, ShrSlice, Room, slice-vals, MutSlice, mut-slice-tells, at-slice, sliceTy, finally, plain, owned, nothing, peeks, heard, Vals, onEntry, Meets, tripleOf, entered, cited, says, Stays, walkOf, Walks, ends-at, walked, walk-meets, needs, stay-none, goes-none, gave-slice, goes-gave-slice, yes, RefT, arith, fullShare, opens-slice, closes-slice, row, whole-in, whole-out, pureI, Held, lends-slice, slice-back, lends-shr-slice, lit<, pointee, shares, Contract, Triple, calls-at, ensured, lasts, lft-new, lft-end, lent-back, cells, Arr, arr-parts, []}
 use types.Run.{load as read}
 use denote.Memory.{mem as inMem}
-use Rattle.tables.specs.Layout.{over}
+use Rattle.plan_tables.specs.Layout.{over}
 use Rattle.records.specs.Sheet.{Task, sheetRows, cutTo, saved}
 use Rattle.records.specs.Blank.{noTasks, none-many, kept-rows}
 use Rattle.records.proofs.LentTasks.{RT, table, tasks-room, no-tasks-room, table-typed, to-table, from-table}

@@ -7,7 +7,7 @@ use lib.Seq.{sets}
 use types.Run.{load as read}
 use denote.Memory.{mem as inMem}
 use denote.Struct.Laws as LL
-use Rattle.tables.specs.Layout.{over}
+use Rattle.plan_tables.specs.Layout.{over}
 use Rattle.records.specs.Sheet.{Task, noTask, taskNums, sheetRows, cutTo}
 use Rattle.records.specs.SheetLaws.{cut-long, cut-few, cut-none, cut-more, over-long}
 use Rattle.records.proofs.Task as T

@@ -1,0 +1,18 @@
+-- `response_in` meets its contract.
+use Rattle.answers_rows.specs.Found.{response-lacking, response-nowhere, response-there}
+use borrow.Author.Needs.{needs}
+use borrow.Author.Tests.{not-false, not-true}
+use mathlib.Core.Path.{_∙_, sym}
+use Rattle.answers_rows.proofs.response_in.Statement.{statement}
+use Rattle.answers_rows.proofs.response_in.Tie as tie
+
+pub response-in-spec : {M : Type 1} → statement M
+response-in-spec =
+    tie.close
+    (tie.spec
+    (λ c κs. search needs)
+    (λ c. response-lacking _ _ _ _ _ _ (c .before .task-row .ensures) _ (c .if1 .taken))
+    (λ c κs. search needs)
+    (λ c. response-nowhere _ _ _ _ _ _ (c .before .before .before .task-row .ensures) _ (c .before .before .if1 .left) (c .before .has-section .ensures) (not-true _ (c .if2 .taken)))
+    (λ c κs. (c .before .before .before .before .before .before .before .pre, c .before .before .if1 .left, sym (c .before .has-section .ensures) ∙ not-false _ (c .if2 .left)))
+    (λ c. response-there _ _ _ _ _ _ (c .before .before .before .before .task-row .ensures) _ (c .before .before .before .if1 .left) (c .before .before .has-section .ensures) (not-false _ (c .before .if2 .left)) (c .response-at .ensures)))

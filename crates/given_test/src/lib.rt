@@ -1,0 +1,298 @@
+// The test for 9: do tables hold what some accepted plan gives? (specs/Given of the tables; specs/Tests has its tests one by one.)
+use given_tidy::FIRST_LOCK;
+use given_tidy::LOCK_WIDTH;
+use given_tidy::MUTEX_WIDTH;
+use given_tidy::OPEN_WIDTH;
+use given_tidy::TASK_WIDTH;
+use given_tidy::VCPU_WIDTH;
+use given_tidy::all_tidy;
+use given_tidy::begins;
+use given_tidy::cell;
+use given_tidy::few;
+use given_tidy::host_of;
+use given_tidy::roomy;
+use judge_coded::Seen;
+use judge_faults::fault_of;
+use judge_seen::ready;
+use judge_seen::seen_after;
+use judge_seen::start;
+use plan::Kind;
+use plan::OverrunChoice;
+use plan::Policy;
+use plan_tables::PlanRecord;
+ghost use mathlib.Core.Path.{_≡_};
+ghost use mathlib.Core.Bool.{true};
+ghost use mathlib.Core.List.{[]};
+ghost use Prim.Native.Nat.{_≤_, _<_};
+ghost use Rattle.laws.specs.Rows.{rows};
+ghost use Rattle.plan.specs.Limits.{maxLocks};
+ghost use Rattle.plan.specs.Text.{policyKind};
+ghost use Rattle.judge_coded.specs.Coded.{item};
+ghost use Rattle.plan_tables.specs.Layout as layout;
+ghost use Rattle.plan_tables.specs.Given as tables;
+ghost use Rattle.given_test.specs.Feed as feed;
+ghost use Rattle.given_test.specs.Tests as tests;
+
+// The judge at work: is no item so far at fault, and what is seen.
+struct Run {
+    ok: bool,
+    seen: Seen,
+}
+
+// After one item more.
+fn fed(run: Run, kind: Kind, a: u64, b: u64, c: u64, d: u64, e: u64) -> Run
+    ensures { λ r. ⌜ r ≡ feed.feed run (item kind a b c d e) ⌝ }
+{
+    let seen = run.seen;
+    let ok = run.ok & plan_tables::is_clear(fault_of(seen, kind, a, b, c, d, e));
+    let next = seen_after(seen, kind, a, b, c, d, e);
+    Run { ok: ok, seen: next }
+}
+
+// Before the first item.
+fn fresh() -> Run
+    ensures { λ r. ⌜ r ≡ feed.fresh ⌝ }
+{
+    let seen = start();
+    Run {
+        ok: true,
+        seen: seen,
+    }
+}
+
+// Is no item at fault, and may the plan stop here?
+fn passing(run: Run) -> bool
+    ensures { λ r. ⌜ r ≡ feed.passing run ⌝ }
+{
+    let seen = run.seen;
+    run.ok & ready(seen)
+}
+
+// After row i of the VCPUs.
+fn fed_vcpu(run: Run, t: &[u64], i: usize) -> Run
+    requires { ⌜ i ≤ tests.mostRows ⌝ }
+    ensures { λ r. ⌜ r ≡ feed.feeds run (feed.vcpuLines (now (t .entry)) i) ⌝ }
+{
+    let v = cell(t, VCPU_WIDTH, i, 0);
+    let guest = cell(t, VCPU_WIDTH, i, 1);
+    let core = cell(t, VCPU_WIDTH, i, 2);
+    let budget = cell(t, VCPU_WIDTH, i, 3);
+    let period = cell(t, VCPU_WIDTH, i, 4);
+    fed(run, Kind::VcpuLine, v, guest, core, budget, period)
+}
+
+// A mutex is global where its owner is 0.
+fn owner_kind(owner: u64) -> Kind
+    ensures { λ r. ⌜ r ≡ feed.ownerKind owner ⌝ }
+{
+    if owner == 0 {
+        Kind::MutexG
+    } else {
+        Kind::MutexL
+    }
+}
+
+// After row i of the mutexes.
+fn fed_mutex(run: Run, t: &[u64], i: usize) -> Run
+    requires { ⌜ i ≤ tests.mostRows ⌝ }
+    ensures { λ r. ⌜ r ≡ feed.feeds run (feed.mutexLines (now (t .entry)) i) ⌝ }
+{
+    let m = cell(t, MUTEX_WIDTH, i, 0);
+    let owner = cell(t, MUTEX_WIDTH, i, 1);
+    let kind = owner_kind(owner);
+    fed(run, kind, m, owner, 0, 0, 0)
+}
+
+// After row i of the openings.
+fn fed_open(run: Run, t: &[u64], i: usize) -> Run
+    requires { ⌜ i ≤ tests.mostRows ⌝ }
+    ensures { λ r. ⌜ r ≡ feed.feeds run (feed.openLines (now (t .entry)) i) ⌝ }
+{
+    let m = cell(t, OPEN_WIDTH, i, 0);
+    let guest = cell(t, OPEN_WIDTH, i, 1);
+    fed(run, Kind::OpenLine, m, guest, 0, 0, 0)
+}
+
+// After lock j of task i.
+fn fed_lock(run: Run, t: &[u64], i: usize, j: usize) -> Run
+    requires { ⌜ (i ≤ tests.mostRows) × (j < maxLocks) ⌝ }
+    ensures { λ r. ⌜ r ≡ feed.feeds run (feed.lockLines (now (t .entry)) i j) ⌝ }
+{
+    let m = cell(t, TASK_WIDTH, i, FIRST_LOCK + (j * LOCK_WIDTH + 0));
+    let ticks = cell(t, TASK_WIDTH, i, FIRST_LOCK + (j * LOCK_WIDTH + 1));
+    let after = cell(t, TASK_WIDTH, i, FIRST_LOCK + (j * LOCK_WIDTH + 2));
+    let held = fed(run, Kind::LockLine, m, ticks, 0, 0, 0);
+    fed(held, Kind::RunLine, after, 0, 0, 0, 0)
+}
+
+// After the first n rows of the VCPUs.
+fn fed_vcpus(run: Run, t: &[u64], n: usize) -> Run
+    requires { ⌜ n ≤ tests.mostRows ⌝ }
+    ensures { λ r. ⌜ r ≡ feed.feeds run (feed.lined n (feed.vcpuLines (now (t .entry)))) ⌝ }
+{
+    let mut s = run;
+    let mut i = 0;
+    while i < n {
+        s = fed_vcpu(s, t, i);
+        i += 1;
+    }
+    s
+}
+
+// After the first n rows of the mutexes.
+fn fed_mutexes(run: Run, t: &[u64], n: usize) -> Run
+    requires { ⌜ n ≤ tests.mostRows ⌝ }
+    ensures { λ r. ⌜ r ≡ feed.feeds run (feed.lined n (feed.mutexLines (now (t .entry)))) ⌝ }
+{
+    let mut s = run;
+    let mut i = 0;
+    while i < n {
+        s = fed_mutex(s, t, i);
+        i += 1;
+    }
+    s
+}
+
+// After the first n rows of the openings.
+fn fed_opens(run: Run, t: &[u64], n: usize) -> Run
+    requires { ⌜ n ≤ tests.mostRows ⌝ }
+    ensures { λ r. ⌜ r ≡ feed.feeds run (feed.lined n (feed.openLines (now (t .entry)))) ⌝ }
+{
+    let mut s = run;
+    let mut i = 0;
+    while i < n {
+        s = fed_open(s, t, i);
+        i += 1;
+    }
+    s
+}
+
+// After the first n locks of task i.
+fn fed_locks(run: Run, t: &[u64], i: usize, n: usize) -> Run
+    requires { ⌜ (i ≤ tests.mostRows) × (n ≤ maxLocks) ⌝ }
+    ensures { λ r. ⌜ r ≡ feed.feeds run (feed.lined n (feed.lockLines (now (t .entry)) i)) ⌝ }
+{
+    let mut s = run;
+    let mut j = 0;
+    while j < n {
+        s = fed_lock(s, t, i, j);
+        j += 1;
+    }
+    s
+}
+
+// After a guest's line, if there is one.
+fn fed_guest(run: Run, on: bool, guest: u64) -> Run
+    ensures { λ r. ⌜ r ≡ feed.feeds run (feed.guestLine on guest []) ⌝ }
+{
+    if on {
+        fed(run, Kind::GuestLine, guest, 0, 0, 0, 0)
+    } else {
+        run
+    }
+}
+
+// After the first two lines of task i.
+fn fed_head(run: Run, t: &[u64], i: usize) -> Run
+    requires { ⌜ i ≤ tests.mostRows ⌝ }
+    ensures { λ r. ⌜ r ≡ feed.feeds run (feed.headLines (now (t .entry)) i []) ⌝ }
+{
+    let v = cell(t, TASK_WIDTH, i, 0);
+    let n = cell(t, TASK_WIDTH, i, 1);
+    let period = cell(t, TASK_WIDTH, i, 2);
+    let first = cell(t, TASK_WIDTH, i, 3);
+    let named = fed(run, Kind::TaskLine, v, n, period, 0, 0);
+    fed(named, Kind::RunLine, first, 0, 0, 0, 0)
+}
+
+// After the lines of task i.
+fn fed_task(run: Run, vt: &[u64], n: usize, t: &[u64], i: usize) -> Run
+    requires { ⌜ (n ≤ tests.mostRows) × (i ≤ tests.mostRows) × (layout.cell (now t) layout.taskWidth i 4 ≤ maxLocks) ⌝ }
+    ensures { λ r. ⌜ r ≡ feed.feeds run (feed.taskLines (rows n (layout.vcpuRow (now (vt .entry)))) (now (t .entry)) i) ⌝ }
+{
+    let on = begins(vt, n, t, i);
+    let guest = host_of(vt, n, t, i);
+    let count = cell(t, TASK_WIDTH, i, 4) as usize;
+    let led = fed_guest(run, on, guest);
+    let head = fed_head(led, t, i);
+    fed_locks(head, t, i, count)
+}
+
+// The kind of the policy's line.
+fn policy_kind(p: Policy, o: OverrunChoice) -> Kind
+    ensures { λ r. ⌜ r ≡ policyKind p o ⌝ }
+{
+    match p {
+        Policy::Periodic => match o {
+            OverrunChoice::WithOverrun => Kind::PolicyPO,
+            OverrunChoice::WithoutOverrun => Kind::PolicyPN,
+        },
+        Policy::Deferrable => match o {
+            OverrunChoice::WithOverrun => Kind::PolicyDO,
+            OverrunChoice::WithoutOverrun => Kind::PolicyDN,
+        },
+    }
+}
+
+// After the lines of the first m tasks.
+fn fed_tasks(run: Run, vt: &[u64], n: usize, t: &[u64], m: usize) -> Run
+    requires { ⌜ (n ≤ tests.mostRows) × (m ≤ tests.mostRows) × (tests.allTidy (now t) m ≡ true) ⌝ }
+    ensures { λ r. ⌜ r ≡ feed.feeds run (feed.lined m (feed.taskLines (rows n (layout.vcpuRow (now (vt .entry)))) (now (t .entry)))) ⌝ }
+{
+    let mut s = run;
+    let mut i = 0;
+    while i < m {
+        s = fed_task(s, vt, n, t, i);
+        i += 1;
+    }
+    s
+}
+
+// After the first two lines.
+fn fed_front(r: PlanRecord) -> Run
+    ensures { λ s. ⌜ s ≡ feed.feeds feed.fresh (tests.frontItems r []) ⌝ }
+{
+    let policy = r.policy;
+    let overrun = r.overrun;
+    let kind = policy_kind(policy, overrun);
+    let first = fed(fresh(), Kind::PlanLine, 0, 0, 0, 0, 0);
+    fed(first, kind, 0, 0, 0, 0, 0)
+}
+
+// Has no item of the rows a fault after those before it?
+fn clean_rows(r: PlanRecord, vt: &[u64], mt: &[u64], ot: &[u64], ts: &[u64]) -> bool
+    requires { ⌜ tests.Few r × (tests.allTidy (now ts) (r .tasks) ≡ true) ⌝ }
+    ensures { λ b. ⌜ b ≡ tests.cleanRows r (tests.lent (now (vt .entry)) (now (mt .entry)) (now (ot .entry)) (now (ts .entry))) ⌝ }
+{
+    let n = r.vcpus;
+    let front = fed_front(r);
+    let vcpus = fed_vcpus(front, vt, n);
+    let mutexes = fed_mutexes(vcpus, mt, r.mutexes);
+    let opens = fed_opens(mutexes, ot, r.opens);
+    let tasks = fed_tasks(opens, vt, n, ts, r.tasks);
+    let end = fed(tasks, Kind::EndLine, 0, 0, 0, 0, 0);
+    passing(end)
+}
+
+// Is every task's row as one of a plan, and has no item of the rows a fault?
+fn sound_rows(r: PlanRecord, vt: &[u64], mt: &[u64], ot: &[u64], ts: &[u64]) -> bool
+    requires { ⌜ tests.Few r ⌝ }
+    ensures { λ b. ⌜ b ≡ tests.soundRows r (tests.lent (now (vt .entry)) (now (mt .entry)) (now (ot .entry)) (now (ts .entry))) ⌝ }
+{
+    if all_tidy(ts, r.tasks) {
+        clean_rows(r, vt, mt, ot, ts)
+    } else {
+        false
+    }
+}
+
+// The test for 9: does some accepted plan give these tables with this record?
+pub fn is_given(r: PlanRecord, vt: &[u64], mt: &[u64], ot: &[u64], ts: &[u64]) -> bool
+    ensures { λ b. ⌜ b ≡ tables.isGiven r (record { vcpus = now (vt .entry); mutexes = now (mt .entry); opens = now (ot .entry); tasks = now (ts .entry) }) ⌝ }
+{
+    if roomy(r, vt, mt, ot, ts) & few(r) {
+        sound_rows(r, vt, mt, ot, ts)
+    } else {
+        false
+    }
+}

@@ -1,0 +1,45 @@
+-- Laws of the search for a VCPU's guest: none of the rows so far has it, this row has it, no row has it; and whether a task begins a section.
+use Prim.Native.Nat.{ℕ, _+_, _-_, _≤_, _<_}
+use mathlib.Core.Path.{_≡_, refl, ap, sym, _∙_}
+use mathlib.Core.List.{List, []}
+use mathlib.Core.Bool.{Bool, _||_, not}
+use lib.Dec.{eqb}
+use borrow.Author.Tests.{eq-eqb, ne-eqb}
+use Rattle.laws.specs.SumLaws.{first-none}
+use Rattle.laws.specs.Rows.{rows, Lacking}
+use Rattle.laws.specs.FirstLaws.{first-row}
+use Rattle.laws.specs.RowLaws.{lacking-more, lacking-all}
+use Rattle.plan.specs.Plan.{Vcpu}
+use Rattle.plan.specs.Rules.{vcpuOf}
+use Rattle.plan_tables.specs.Layout.{vcpuWidth, cell, vcpuRow}
+use Rattle.plan_tables.specs.Given.{guestFor}
+use Rattle.given_tidy.specs.Hosts.{hostOf, begins}
+
+-- is this VCPU v?
+abbrev pub named : ℕ → Vcpu → Bool
+named v x = eqb (x .v) v
+
+module _ (t : List ℕ) (n v : ℕ) where
+  -- row i does not have it
+  pub guest-more : {i x : ℕ} → Lacking (named v) (vcpuRow t) n i → i < n → x ≡ cell t vcpuWidth i 0 → (x ≡ v → ⊥) → Lacking (named v) (vcpuRow t) n (i + 1)
+  unfolding vcpuRow
+  guest-more {i} h l e k = lacking-more h l refl (ne-eqb (cell t vcpuWidth i 0) v (λ z. k (e ∙ z)))
+
+  -- row i has it
+  pub guest-hit :
+      {i g x : ℕ} → Lacking (named v) (vcpuRow t) n i → i < n → g ≡ cell t vcpuWidth i 1 → x ≡ cell t vcpuWidth i 0 → x ≡ v →
+      g ≡ guestFor (rows n (vcpuRow t)) v
+  unfolding guestFor vcpuRow
+  guest-hit {i} h l e f k =
+      e ∙ sym (ap (λ (r : Vcpu). r .guest) (first-row (named v) (vcpuOf []) (vcpuRow t) n i h l (eq-eqb (cell t vcpuWidth i 0) v (sym f ∙ k))))
+
+  -- no row has it
+  pub guest-none : {i : ℕ} → Lacking (named v) (vcpuRow t) n i → n ≤ i → 0 ≡ guestFor (rows n (vcpuRow t)) v
+  unfolding guestFor
+  guest-none h l = sym (ap (λ (r : Vcpu). r .guest) (first-none (named v) (vcpuOf []) (rows n (vcpuRow t)) (sym (lacking-all h l))))
+
+-- whether a task begins a section, from the guests of its VCPU and of the one before
+pub begins-told :
+    (vs : List Vcpu) (t : List ℕ) (i : ℕ) {p x y : ℕ} → p ≡ i - 1 → y ≡ hostOf vs t p → x ≡ hostOf vs t i → (eqb i 0 || not (eqb x y)) ≡ begins vs t i
+unfolding begins
+begins-told vs t i e f g = rw (g, f, e)

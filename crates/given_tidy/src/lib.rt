@@ -1,0 +1,158 @@
+// The tests of lent tables that judge no item, for 9: the counts within the slices and within a plan's, zeros where a task has no lock, and the guest of a task. (specs/Tests has the tests, specs/Hosts the guests.)
+use plan_tables::PlanRecord;
+use plan_tables::at;
+ghost use mathlib.Core.Path.{_≡_};
+ghost use Prim.Native.Nat.{_*_, _-_, _≤_, _<_};
+ghost use lib.Dec.{leb};
+ghost use lib.ListN.{length};
+ghost use Rattle.laws.specs.Rows.{rows};
+ghost use Rattle.plan_tables.specs.Layout as layout;
+ghost use Rattle.plan_tables.specs.Given as tables;
+ghost use Rattle.given_tidy.specs.Hosts as hosts;
+ghost use Rattle.given_tidy.specs.Tests as tests;
+
+// The numbers in a row of each table (specs/Layout of the tables).
+pub const VCPU_WIDTH: usize = 5;
+
+pub const MUTEX_WIDTH: usize = 2;
+
+pub const OPEN_WIDTH: usize = 2;
+
+pub const LOCK_WIDTH: usize = 3;
+
+pub const TASK_WIDTH: usize = 29;
+
+// Where the locks of a task begin.
+pub const FIRST_LOCK: usize = 5;
+
+// No plan has more rows of each table, and no task more locks (specs/Limits of `plan`).
+const MAX_VCPUS: usize = 16;
+
+const MAX_MUTEXES: usize = 32;
+
+const MAX_OPENS: usize = 128;
+
+const MAX_TASKS: usize = 64;
+
+const MAX_LOCKS: u64 = 8;
+
+// Place j of row i, in rows of w numbers.
+pub fn cell(t: &[u64], w: usize, i: usize, j: usize) -> u64
+    requires { ⌜ (i ≤ tests.mostRows) × (w ≤ layout.taskWidth) × (j ≤ layout.taskWidth) ⌝ }
+    ensures { λ r. ⌜ r ≡ layout.cell (now (t .entry)) w i j ⌝ }
+{
+    at(t, i * w + j)
+}
+
+// The guest of VCPU v: that of the first of n rows that has it, 0 where none has.
+fn guest_in(t: &[u64], n: usize, v: u64) -> u64
+    requires { ⌜ n ≤ tests.mostRows ⌝ }
+    ensures { λ r. ⌜ r ≡ tables.guestFor (rows n (layout.vcpuRow (now (t .entry)))) v ⌝ }
+{
+    let mut i = 0;
+    while i < n {
+        let guest = cell(t, VCPU_WIDTH, i, 1);
+        if cell(t, VCPU_WIDTH, i, 0) == v {
+            return guest;
+        }
+        i += 1;
+    }
+    0
+}
+
+// The number before i, 0 before 0.
+fn prior(i: usize) -> usize
+    ensures { λ r. ⌜ r ≡ i - 1 ⌝ }
+{
+    if i == 0 { 0 } else { i - 1 }
+}
+
+// The guest of task i.
+pub fn host_of(vt: &[u64], n: usize, t: &[u64], i: usize) -> u64
+    requires { ⌜ (n ≤ tests.mostRows) × (i ≤ tests.mostRows) ⌝ }
+    ensures { λ r. ⌜ r ≡ hosts.hostOf (rows n (layout.vcpuRow (now (vt .entry)))) (now (t .entry)) i ⌝ }
+{
+    guest_in(vt, n, cell(t, TASK_WIDTH, i, 0))
+}
+
+// Is task i the first, or its guest another than that of the task before it?
+pub fn begins(vt: &[u64], n: usize, t: &[u64], i: usize) -> bool
+    requires { ⌜ (n ≤ tests.mostRows) × (i ≤ tests.mostRows) ⌝ }
+    ensures { λ r. ⌜ r ≡ hosts.begins (rows n (layout.vcpuRow (now (vt .entry)))) (now (t .entry)) i ⌝ }
+{
+    let last = host_of(vt, n, t, prior(i));
+    (i == 0) | !(host_of(vt, n, t, i) == last)
+}
+
+// Are the places of task i from c on zero?
+fn zero_from(t: &[u64], i: usize, c: usize) -> bool
+    requires { ⌜ (i ≤ tests.mostRows) × (c ≤ layout.taskWidth) ⌝ }
+    ensures { λ r. ⌜ r ≡ tables.zeroFrom (now (t .entry)) i c ⌝ }
+{
+    let n = TASK_WIDTH - c;
+    let mut j = 0;
+    while j < n {
+        let zero = cell(t, TASK_WIDTH, i, c + j) == 0;
+        if !zero {
+            return false;
+        }
+        j += 1;
+    }
+    true
+}
+
+// Has task i few locks, and zeros in the places of those that it does not have?
+fn tidy(t: &[u64], i: usize) -> bool
+    requires { ⌜ i ≤ tests.mostRows ⌝ }
+    ensures { λ r. ⌜ r ≡ tests.tidy (now (t .entry)) i ⌝ }
+{
+    let count = cell(t, TASK_WIDTH, i, 4);
+    if count <= MAX_LOCKS {
+        zero_from(t, i, FIRST_LOCK + count as usize * LOCK_WIDTH)
+    } else {
+        false
+    }
+}
+
+// The same of each of n tasks.
+pub fn all_tidy(t: &[u64], n: usize) -> bool
+    requires { ⌜ n ≤ tests.mostRows ⌝ }
+    ensures { λ r. ⌜ r ≡ tests.allTidy (now (t .entry)) n ⌝ }
+{
+    let mut i = 0;
+    while i < n {
+        let one = tidy(t, i);
+        if !one {
+            return false;
+        }
+        i += 1;
+    }
+    true
+}
+
+// Are n rows of w numbers within a slice?
+fn has_room(n: usize, w: usize, t: &[u64]) -> bool
+    requires { ⌜ 0 < w ⌝ }
+    ensures { λ r. ⌜ r ≡ leb (n * w) (length (now (t .entry))) ⌝ }
+{
+    n <= t.len() / w
+}
+
+// Are the counts within the slices?
+pub fn roomy(r: PlanRecord, vt: &[u64], mt: &[u64], ot: &[u64], ts: &[u64]) -> bool
+    ensures { λ b. ⌜ b ≡ tables.roomy r (tests.lent (now (vt .entry)) (now (mt .entry)) (now (ot .entry)) (now (ts .entry))) ⌝ }
+{
+    let vcpus = has_room(r.vcpus, VCPU_WIDTH, vt);
+    let mutexes = has_room(r.mutexes, MUTEX_WIDTH, mt);
+    let opens = has_room(r.opens, OPEN_WIDTH, ot);
+    let tasks = has_room(r.tasks, TASK_WIDTH, ts);
+    vcpus & (mutexes & (opens & tasks))
+}
+
+// Are there no more rows than a plan can have?
+pub fn few(r: PlanRecord) -> bool
+    ensures { λ b. ⌜ b ≡ tests.few r ⌝ }
+{
+    (r.vcpus <= MAX_VCPUS)
+        & ((r.mutexes <= MAX_MUTEXES) & ((r.opens <= MAX_OPENS) & (r.tasks <= MAX_TASKS)))
+}

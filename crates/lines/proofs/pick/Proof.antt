@@ -1,8 +1,0 @@
--- `lines::pick` meets its contract.
-use Rattle.lines.specs.Code.{pickOf}
-use Rattle.lines.proofs.pick.Statement.{statement}
-use Rattle.lines.proofs.pick.Tie as tie
-
-pub pick-spec : {M : Type 1} → statement M
-unfolding pickOf
-pick-spec = tie.close (tie.spec (λ c. rw (c .if1 .taken)) (λ c. rw (c .if1 .left)))

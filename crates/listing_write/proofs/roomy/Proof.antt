@@ -1,0 +1,13 @@
+-- `roomy` meets its contract.
+use lib.Dec.{leb}
+use mathlib.Core.Path.{ap}
+use borrow.Author.Needs.{needs}
+use Rattle.listing_write.proofs.roomy.Statement.{statement}
+use Rattle.listing_write.proofs.roomy.Tie as tie
+
+pub roomy-spec : {M : Type 1} → statement M
+roomy-spec =
+    tie.close
+    (tie.spec
+    (λ c κs. search needs)
+    (λ c. ap (λ k. leb k (c .before .before .before .before .before .before .before .before .args .room)) (c .listing-size .ensures .is)))

@@ -1,0 +1,155 @@
+-- The reading of a byte string: accepted with its plan, or refused by the first bad line and the lowest number of that line.
+-- Every list of bytes has a reading: `pieces` gives at least one piece, and `judge` runs down the pieces.
+use Prim.Native.Nat.{ℕ, _+_}
+use mathlib.Core.Path.{_≡_}
+use mathlib.Core.List.{List, [], _∷_}
+use mathlib.Core.Option.{Option, some, none}
+use mathlib.Core.Bool.{Bool, true, cond, _&&_}
+use lib.Dec.{eqb}
+use Rattle.laws.specs.Bytes.{pieces, isNil}
+use Rattle.plan.specs.Limits.{lf}
+use Rattle.plan.specs.Refusals.{Refusal, Shape, Number, Fault, Clear, Bad, unless}
+use Rattle.plan.specs.Line.{Item, Kind, shape, written, itemOf, headOr, PlanLine, PolicyPO, PolicyPN, PolicyDO, PolicyDN, VcpuLine, MutexG, MutexL, OpenLine, GuestLine, TaskLine, RunLine, LockLine, EndLine, AskLine, FreeLine, UseLine, TopLine, ShowLine}
+use Rattle.plan.specs.Plan.{Policy, Periodic, Deferrable, OverrunChoice, WithOverrun, WithoutOverrun, Vcpu, Global, Local, Mutex, Open, Lock, Task, Section, Plan}
+use Rattle.plan.specs.Rules.{Known, start, nth, vcpuOf, follows, rule, learnt}
+
+-- A JUDGE OF ITEMS, with what it has seen: may a line of a kind stand here, what else is wrong with it, what is seen after it, may the plan stop here
+pub record Judge : Type 1 where
+  pub Seen : Type 0
+  pub allowed : Seen → Kind → Bool
+  pub judged : Seen → Item → Fault
+  pub next : Seen → Item → Seen
+  pub ready : Seen → Bool
+
+-- the verdict on all lines: no fault, or the first bad line with its refusal
+pub data Verdict : Type 0 where
+  Faultless : Verdict
+  FirstBad : Refusal → ℕ → Verdict
+
+module _ (J : Judge) where
+  -- "in a line the lowest number": not a record allowed here (1), a number not written as it should be (2), what the judge says (3 to 7)
+  unfoldable pub fault : J .Seen → Item → Fault
+  fault t i = unless (J .allowed t (i .kind)) Shape (unless (written (shape (i .kind)) (i .nums)) Number (J .judged t i))
+
+  abbrev pub faultOf : J .Seen → Option Item → Fault
+  faultOf t none = Bad Shape
+  faultOf t (some i) = fault t i
+
+  abbrev pub nextOf : J .Seen → Option Item → J .Seen
+  nextOf t none = t
+  nextOf t (some i) = J .next t i
+
+  -- what follows the last LF: nothing, and the plan may stop; else 1 at this line (no LF, bytes after `end`, or a line is due)
+  abbrev pub finish : J .Seen → List ℕ → ℕ → Verdict
+  finish t l n = cond (J .ready t && isNil l) Faultless (FirstBad Shape n)
+
+  abbrev pub onward : Fault → ℕ → Verdict → Verdict
+  onward Clear n rest = rest
+  onward (Bad r) n rest = FirstBad r n
+
+  -- "the first bad line from the top decides": the pieces between the LFs, from line n on; the last piece is what follows the last LF
+  unfoldable pub judge : J .Seen → ℕ → List (List ℕ) → Verdict
+  judge t n [] = FirstBad Shape n
+  judge t n (l ∷ ls) = cond (isNil ls) (finish t l n) (onward (faultOf t (itemOf l)) n (judge (nextOf t (itemOf l)) (n + 1) ls))
+
+  -- no item has a fault after those before it, and the plan may stop after them
+  abbrev pub Passes : J .Seen → List Item → Type 0
+  Passes t [] = J .ready t ≡ true
+  Passes t (i ∷ is) = (fault t i ≡ Clear) × Passes (J .next t i) is
+
+-- the judge of a plan's lines
+abbrev pub rules : Judge
+rules = record {
+  Seen = Known;
+  allowed = λ t k. follows (t .phase) k;
+  judged = λ t i. rule t (i .kind) (i .nums);
+  next = λ t i. learnt t i;
+  ready = λ t. eqb (t .phase) 10;
+}
+
+-- THE PLAN THAT LINES SAY, gathered from the last line up: runs, locks and tasks wait for the line that they belong to
+pub record Rest : Type 0 where
+  pub policy : Policy
+  pub overrun : OverrunChoice
+  pub vcpus : List Vcpu
+  pub mutexes : List Mutex
+  pub opens : List Open
+  pub runs : List ℕ
+  pub locks : List Lock
+  pub tasks : List Task
+  pub sections : List Section
+
+abbrev pub rest : Policy → OverrunChoice → List Vcpu → List Mutex → List Open → List ℕ → List Lock → List Task → List Section → Rest
+rest p o vs ms os rs ls ts ss =
+    record { policy = p; overrun = o; vcpus = vs; mutexes = ms; opens = os; runs = rs; locks = ls; tasks = ts; sections = ss }
+
+abbrev pub withPolicy : Policy → OverrunChoice → Rest → Rest
+withPolicy p o r = rest p o (r .vcpus) (r .mutexes) (r .opens) (r .runs) (r .locks) (r .tasks) (r .sections)
+
+abbrev pub aboveMutex : Mutex → Rest → Rest
+aboveMutex x r = rest (r .policy) (r .overrun) (r .vcpus) (x ∷ r .mutexes) (r .opens) (r .runs) (r .locks) (r .tasks) (r .sections)
+
+-- a line above the rest
+unfoldable pub lineAbove : Kind → List ℕ → Rest → Rest
+lineAbove PlanLine ns r = r
+lineAbove PolicyPO ns r = withPolicy Periodic WithOverrun r
+lineAbove PolicyPN ns r = withPolicy Periodic WithoutOverrun r
+lineAbove PolicyDO ns r = withPolicy Deferrable WithOverrun r
+lineAbove PolicyDN ns r = withPolicy Deferrable WithoutOverrun r
+lineAbove VcpuLine ns r = rest (r .policy) (r .overrun) (vcpuOf ns ∷ r .vcpus) (r .mutexes) (r .opens) (r .runs) (r .locks) (r .tasks) (r .sections)
+lineAbove MutexG ns r = aboveMutex (record { m = nth 0 ns; owner = Global }) r
+lineAbove MutexL ns r = aboveMutex (record { m = nth 0 ns; owner = Local (nth 1 ns) }) r
+lineAbove OpenLine ns r =
+    rest (r .policy) (r .overrun) (r .vcpus) (r .mutexes) (record { m = nth 0 ns; guest = nth 1 ns } ∷ r .opens) (r .runs) (r .locks) (r .tasks) (r .sections)
+lineAbove GuestLine ns r =
+    rest (r .policy) (r .overrun) (r .vcpus) (r .mutexes) (r .opens) (r .runs) (r .locks) [] (record { guest = nth 0 ns; tasks = r .tasks } ∷ r .sections)
+lineAbove TaskLine ns r =
+    rest (r .policy) (r .overrun) (r .vcpus) (r .mutexes) (r .opens) [] []
+    (record { v = nth 0 ns; n = nth 1 ns; period = nth 2 ns; first = headOr (r .runs); locks = r .locks } ∷ r .tasks)
+    (r .sections)
+lineAbove RunLine ns r = rest (r .policy) (r .overrun) (r .vcpus) (r .mutexes) (r .opens) (nth 0 ns ∷ []) (r .locks) (r .tasks) (r .sections)
+lineAbove LockLine ns r =
+    rest (r .policy) (r .overrun) (r .vcpus) (r .mutexes) (r .opens) []
+    (record { m = nth 0 ns; ticks = nth 1 ns; after = headOr (r .runs) } ∷ r .locks) (r .tasks) (r .sections)
+lineAbove EndLine ns r = r
+lineAbove AskLine ns r = r
+lineAbove FreeLine ns r = r
+lineAbove UseLine ns r = r
+lineAbove TopLine ns r = r
+lineAbove ShowLine ns r = r
+
+unfoldable pub restOf : List Item → Rest
+restOf [] = rest Periodic WithOverrun [] [] [] [] [] [] []
+restOf (i ∷ is) = lineAbove (i .kind) (i .nums) (restOf is)
+
+abbrev pub planFrom : Rest → Plan
+planFrom r =
+    record { policy = r .policy; overrun = r .overrun; vcpus = r .vcpus; mutexes = r .mutexes; opens = r .opens; sections = r .sections }
+
+unfoldable pub planOf : List Item → Plan
+planOf is = planFrom (restOf is)
+
+abbrev pub push : Option Item → List Item → List Item
+push none is = is
+push (some i) is = i ∷ is
+
+-- the items that the lines say; the last piece is no line
+unfoldable pub itemsIn : List (List ℕ) → List Item
+itemsIn [] = []
+itemsIn (l ∷ ls) = cond (isNil ls) [] (push (itemOf l) (itemsIn ls))
+
+-- THE READING
+pub data Reading : Type 0 where
+  Accepts : Plan → Reading
+  Refuses : Refusal → ℕ → Reading
+
+abbrev pub answer : Verdict → Plan → Reading
+answer Faultless p = Accepts p
+answer (FirstBad r l) p = Refuses r l
+
+unfoldable pub readingBy : (J : Judge) → J .Seen → List ℕ → Reading
+readingBy J t s = answer (judge J t 1 (pieces lf s)) (planOf (itemsIn (pieces lf s)))
+
+-- what reading these bytes answers
+abbrev pub reading : List ℕ → Reading
+reading s = readingBy rules start s

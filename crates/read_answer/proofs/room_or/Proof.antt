@@ -1,0 +1,15 @@
+-- `read_answer::room_or` meets its contract.
+use Rattle.read_answer.specs.Judged.{roomOr}
+use Rattle.read_answer.proofs.room_or.Statement.{statement}
+use Rattle.read_answer.proofs.room_or.Tie as tie
+
+returns : tie.Need-returns
+unfolding roomOr
+returns c = simp (c .if1 .taken)
+
+returns-2 : tie.Need-returns-2
+unfolding roomOr
+returns-2 c = simp (c .if1 .left)
+
+pub room-or-spec : {M : Type 1} → statement M
+room-or-spec = tie.close (tie.spec returns returns-2)

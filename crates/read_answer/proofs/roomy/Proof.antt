@@ -1,0 +1,10 @@
+-- `read_answer::roomy` meets its contract.
+use Rattle.read_answer.specs.JudgedLaws.{roomy-code}
+use Rattle.read_answer.proofs.roomy.Statement.{statement}
+use Rattle.read_answer.proofs.roomy.Tie as tie
+
+returns : tie.Need-returns
+returns c = let a = c .before .before .before .before .args in roomy-code (a .r) (a .v) (a .m) (a .o) (a .k)
+
+pub roomy-spec : {M : Type 1} → statement M
+roomy-spec = tie.close (tie.spec returns)

@@ -1,0 +1,76 @@
+-- What the code of the reader answers and leaves, step by step.
+use Prim.Native.Nat.{ℕ, _*_}
+use mathlib.Core.List.{List, [], _∷_}
+use mathlib.Core.Bool.{Bool, true, false, cond, _&&_}
+use lib.Dec.{leb}
+use Rattle.laws.specs.Bytes.{pieces, isNil}
+use Rattle.plan.specs.Limits.{lf}
+use Rattle.plan.specs.declared.Refusal.the-variants.{Shape, Room}
+use Rattle.plan.specs.declared.Fault.{Fault}
+use Rattle.plan.specs.declared.Fault.the-variants.{Clear, Bad}
+use Rattle.plan.specs.Reading.{Verdict, Faultless, FirstBad, judge, faultOf, nextOf}
+use Rattle.plan_tables.specs.declared.PlanRecord.{PlanRecord}
+use Rattle.plan_tables.specs.Layout.{Tables, vcpuWidth, mutexWidth, openWidth, taskWidth}
+use Rattle.plan_tables.specs.Given.{isClear}
+use Rattle.text_lines.specs.declared.Said.{Said}
+use Rattle.text_lines.specs.Said.{saidOf, saidItem}
+use Rattle.judge_coded.specs.declared.Seen.{Seen}
+use Rattle.judge_coded.specs.Coded.{coded, start}
+use Rattle.read_tally.specs.declared.Tally.{Tally}
+use Rattle.read_tally.specs.Tally.{recordIn, tallied, tallyAfter, blank}
+use Rattle.read_answer.specs.Into.{PlanAnswer, Accepted, Refused}
+
+-- THE VERDICT ON LINES, with the record of what they tally
+abbrev pub answerBy : Verdict → PlanRecord → PlanAnswer
+answerBy Faultless r = Accepted r
+answerBy (FirstBad x l) r = Refused x l
+
+-- from line n on, after what is seen and tallied
+unfoldable pub judgedFrom : Seen → Tally → ℕ → List (List ℕ) → PlanAnswer
+judgedFrom t c n ls = answerBy (judge coded t n ls) (recordIn (tallied c ls))
+
+abbrev pub refusedBy : Fault → ℕ → PlanAnswer
+refusedBy Clear n = Refused Shape n
+refusedBy (Bad x) n = Refused x n
+
+unfoldable pub finishBy : Bool → Tally → ℕ → PlanAnswer
+finishBy true t n = Accepted (recordIn t)
+finishBy false t n = Refused Shape n
+
+-- ROOM
+unfoldable pub roomyBy : PlanRecord → ℕ → ℕ → ℕ → ℕ → Bool
+roomyBy r v m o k =
+    leb (r .vcpus * vcpuWidth) v && (leb (r .mutexes * mutexWidth) m && (leb (r .opens * openWidth) o && leb (r .tasks * taskWidth) k))
+
+unfoldable pub roomOr : Bool → PlanRecord → PlanAnswer
+roomOr true r = Accepted r
+roomOr false r = Refused Room 0
+
+abbrev pub withRoom : PlanAnswer → ℕ → ℕ → ℕ → ℕ → PlanAnswer
+withRoom (Accepted r) v m o k = roomOr (roomyBy r v m o k) r
+withRoom (Refused x l) v m o k = Refused x l
+
+abbrev pub isAccepted : PlanAnswer → Bool
+isAccepted (Accepted r) = true
+isAccepted (Refused x l) = false
+
+-- TABLES
+abbrev pub lent : List ℕ → List ℕ → List ℕ → List ℕ → Tables
+lent v m o k = record { vcpus = v; mutexes = m; opens = o; tasks = k }
+
+-- what lines write into a table, after what is seen and tallied: each line before the first with a fault; the last piece is no line
+unfoldable pub leftFrom : (Tally → Said → List ℕ → List ℕ) → Seen → Tally → List ℕ → List (List ℕ) → List ℕ
+leftFrom put t c d [] = d
+leftFrom put t c d (l ∷ ls) =
+    cond (isNil ls) d
+    (cond (isClear (faultOf coded t (saidItem (saidOf l))))
+    (leftFrom put (nextOf coded t (saidItem (saidOf l))) (tallyAfter c (saidOf l)) (put c (saidOf l) d) ls) d)
+
+-- what the lines of s leave in a table
+abbrev pub linesLeft : (Tally → Said → List ℕ → List ℕ) → List ℕ → List ℕ → List ℕ
+linesLeft put s d = leftFrom put start blank d (pieces lf s)
+
+-- the same where the test holds; else the table as it was
+unfoldable pub leftIf : Bool → (Tally → Said → List ℕ → List ℕ) → List ℕ → List ℕ → List ℕ
+leftIf true put s d = linesLeft put s d
+leftIf false put s d = d

@@ -1,0 +1,44 @@
+-- What is told of lent tables is told of the first 64 records.
+use Prim.Native.Nat.{ℕ}
+use mathlib.Core.Path.{_≡_, ap}
+use mathlib.Core.List.{List}
+use Rattle.plan.specs.Limits.{maxTasks}
+use Rattle.plan.specs.declared.Refusal.the-variants.{Foreign}
+use Rattle.plan_tables.specs.declared.PlanRecord.{PlanRecord}
+use Rattle.plan_tables.specs.Layout.{Tables}
+use Rattle.figures.specs.System.{system}
+use Rattle.answers_rows.specs.declared.RowAnswer.the-variants.{NoRow}
+use Rattle.answers_rows.specs.declared.TaskRowAnswer.the-variants.{NoTaskRow}
+use Rattle.answers_rows.specs.declared.FigureAnswer.the-variants.{NoFigure}
+use Rattle.answers_rows.specs.Asked.{vcpuRowOf, waitRowOf, taskRowOf, responseRowOf, vcpuAsked, waitAsked, taskAsked, responseAsked}
+use Rattle.listing.specs.Listing.{listing}
+use Rattle.listing_lines.specs.declared.TextAnswer.the-variants.{Refused}
+use Rattle.listing_lines.specs.Into.{textAnswer, textAfter}
+use Rattle.listing_asked.specs.Asked.{listingAsked, listingLeft}
+use Rattle.records.specs.declared.Task.{Task}
+use Rattle.records.specs.Sheet.{cutTo, tablesOf}
+use Rattle.records_ask.specs.Replies.{Question, IsGiven, VcpuTime, WaitTime, TaskTime, SectionResponse, Given, Row, TaskRow, Figure, replyTo}
+use Rattle.records.specs.CutLaws.{cut-told, cut-given}
+
+module _ (vt mt ot : List ℕ) (ks : List Task) (r : PlanRecord) where
+  abbrev cut : Tables
+  cut = tablesOf vt mt ot (cutTo maxTasks ks)
+
+  abbrev whole : Tables
+  whole = tablesOf vt mt ot ks
+
+  pub reply-cut : (q : Question) → replyTo r cut q ≡ replyTo r whole q
+  unfolding replyTo vcpuAsked waitAsked taskAsked responseAsked
+  reply-cut IsGiven = ap Given (cut-given vt mt ot ks r)
+  reply-cut (VcpuTime v) = ap Row (cut-told vt mt ot ks (λ p. vcpuRowOf (system p) v) (NoRow Foreign) r)
+  reply-cut (WaitTime v n i) = ap Row (cut-told vt mt ot ks (λ p. waitRowOf (system p) v n i) (NoRow Foreign) r)
+  reply-cut (TaskTime v n) = ap TaskRow (cut-told vt mt ot ks (λ p. taskRowOf (system p) v n) (NoTaskRow Foreign) r)
+  reply-cut (SectionResponse v n i) = ap Figure (cut-told vt mt ot ks (λ p. responseRowOf (system p) v n i) (NoFigure Foreign) r)
+
+  pub listing-cut : (o : List ℕ) → listingAsked r cut o ≡ listingAsked r whole o
+  unfolding listingAsked
+  listing-cut o = cut-told vt mt ot ks (λ p. textAnswer (listing (system p)) o) (Refused Foreign) r
+
+  pub left-cut : (o : List ℕ) → listingLeft r cut o ≡ listingLeft r whole o
+  unfolding listingLeft
+  left-cut o = cut-told vt mt ot ks (λ p. textAfter (listing (system p)) o) o r

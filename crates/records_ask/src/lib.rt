@@ -1,0 +1,121 @@
+// What is asked of tables with tasks as a lent slice of records: the records' numbers are loaded, and the covered functions over numbers answer.
+use answers_rows::FigureAnswer;
+use answers_rows::RowAnswer;
+use answers_rows::TaskRowAnswer;
+use listing_lines::TextAnswer;
+use plan_tables::PlanRecord;
+use records::Task;
+ghost use mathlib.Core.Path.{_≡_};
+ghost use Prim.Native.Nat.{_≤_};
+ghost use lib.ListN.{length, take};
+ghost use Rattle.listing_asked.specs.Asked.{listingAsked, listingLeft};
+ghost use Rattle.records.specs.Sheet.{tablesOf};
+ghost use Rattle.records_ask.specs.Replies.{replyTo};
+
+// What may be asked of lent tables: the test for 9, how late a VCPU can finish, how long task (v, n) can wait at a lock place, how late it can finish, and the response of its global section at a lock place.
+pub enum Question {
+    IsGiven,
+    VcpuTime { v: u64 },
+    WaitTime { v: u64, n: u64, place: u64 },
+    TaskTime { v: u64, n: u64 },
+    SectionResponse { v: u64, n: u64, place: u64 },
+}
+
+// What is replied.
+pub enum Replied {
+    Given(bool),
+    Row(RowAnswer),
+    TaskRow(TaskRowAnswer),
+    Figure(FigureAnswer),
+}
+
+// The reply, on rows of numbers.
+fn reply_on(r: PlanRecord, vt: &[u64], mt: &[u64], ot: &[u64], ts: &[u64], q: Question) -> Replied
+    ensures { λ a. ⌜ a ≡ replyTo r (record { vcpus = now (vt .entry); mutexes = now (mt .entry); opens = now (ot .entry); tasks = now (ts .entry) }) q ⌝ }
+{
+    match q {
+        Question::IsGiven => Replied::Given(given_test::is_given(r, vt, mt, ot, ts)),
+        Question::VcpuTime { v } => Replied::Row(answers_rows::vcpu_time(r, vt, mt, ot, ts, v)),
+        Question::WaitTime { v, n, place } => {
+            Replied::Row(answers_rows::wait_time(r, vt, mt, ot, ts, v, n, place))
+        }
+        Question::TaskTime { v, n } => Replied::TaskRow(answers_rows::task_time(
+            r,
+            vt,
+            mt,
+            ot,
+            ts,
+            v,
+            n,
+        )),
+        Question::SectionResponse { v, n, place } => {
+            Replied::Figure(answers_rows::section_response(r, vt, mt, ot, ts, v, n, place))
+        }
+    }
+}
+
+// The reply, on the first c numbers of the rows.
+fn reply_in(
+    r: PlanRecord,
+    vt: &[u64],
+    mt: &[u64],
+    ot: &[u64],
+    rows: &[u64],
+    q: Question,
+    c: usize,
+) -> Replied
+    requires { ⌜ c ≤ length (now rows) ⌝ }
+    ensures { λ a. ⌜ a ≡ replyTo r (record { vcpus = now (vt .entry); mutexes = now (mt .entry); opens = now (ot .entry); tasks = take c (now (rows .entry)) }) q ⌝ }
+{
+    reply_on(r, vt, mt, ot, &rows[..c], q)
+}
+
+// Replies to a question about the plan in lent tables.
+pub fn reply(
+    r: PlanRecord,
+    vt: &[u64],
+    mt: &[u64],
+    ot: &[u64],
+    tasks: &[Task],
+    q: Question,
+) -> Replied
+    ensures { λ a. ⌜ a ≡ replyTo r (tablesOf (now (vt .entry)) (now (mt .entry)) (now (ot .entry)) (now (tasks .entry))) q ⌝ }
+{
+    let mut rows = records::no_rows();
+    let c = records::load(tasks, &mut rows, 64);
+    reply_in(r, vt, mt, ot, &rows, q, c)
+}
+
+// The listing into a lent buffer, on the first c numbers of the rows.
+fn listing_in(
+    r: PlanRecord,
+    vt: &[u64],
+    mt: &[u64],
+    ot: &[u64],
+    rows: &[u64],
+    out: &mut [u8],
+    c: usize,
+) -> TextAnswer
+    requires { ⌜ c ≤ length (now rows) ⌝ }
+    ensures { λ a. ⌜ (a ≡ listingAsked r (record { vcpus = now (vt .entry); mutexes = now (mt .entry); opens = now (ot .entry); tasks = take c (now (rows .entry)) }) (now (out .entry)))
+        × (now (out .exit) ≡ listingLeft r (record { vcpus = now (vt .entry); mutexes = now (mt .entry); opens = now (ot .entry); tasks = take c (now (rows .entry)) }) (now (out .entry))) ⌝ }
+{
+    listing_write::write_listing(r, vt, mt, ot, &rows[..c], out)
+}
+
+// Writes the listing of the plan in lent tables into a lent buffer: 9 first, then 8.
+pub fn write_listing(
+    r: PlanRecord,
+    vt: &[u64],
+    mt: &[u64],
+    ot: &[u64],
+    tasks: &[Task],
+    out: &mut [u8],
+) -> TextAnswer
+    ensures { λ a. ⌜ a ≡ listingAsked r (tablesOf (now (vt .entry)) (now (mt .entry)) (now (ot .entry)) (now (tasks .entry))) (now (out .entry)) ⌝ }
+    ensures { λ a. ⌜ now (out .exit) ≡ listingLeft r (tablesOf (now (vt .entry)) (now (mt .entry)) (now (ot .entry)) (now (tasks .entry))) (now (out .entry)) ⌝ }
+{
+    let mut rows = records::no_rows();
+    let c = records::load(tasks, &mut rows, 64);
+    listing_in(r, vt, mt, ot, &rows, out, c)
+}

@@ -1,0 +1,49 @@
+-- A line as code tests it: each number by its field, once its kind is found by tabs and words.
+use Prim.Native.Nat.{ℕ}
+use mathlib.Core.List.{List}
+use mathlib.Core.Bool.{Bool, true, false, _&&_, _||_}
+use lib.Dec.{eqb, leb, ltb}
+use Rattle.laws.specs.Choice.{when}
+use Rattle.laws.specs.Decimal.{value}
+use Rattle.laws.specs.Fields.{before, after}
+use Rattle.plan.specs.Limits.{maxDigits, tab}
+use Rattle.plan.specs.declared.Found.{Found}
+use Rattle.plan.specs.declared.Found.the-variants.{Is, Nothing}
+use Rattle.plan.specs.Line.{bad, shape, size}
+use Rattle.text_lines.specs.Said.{Said}
+use Rattle.text_words.specs.Keys.{kindAt}
+
+-- how many numbers a line of this kind has
+abbrev pub sizeIn : Found → ℕ
+sizeIn Nothing = 0
+sizeIn (Is k) = size (shape k)
+
+unfoldable pub pickOf : Bool → List ℕ → List ℕ → List ℕ
+pickOf true s t = s
+pickOf false s t = t
+
+-- WHAT IS SAID by a line with c tabs and n numbers, of the fields x, y, z, p, q after its word: of two numbers on three tabs the second stands in z
+unfoldable pub saidBy : ℕ → ℕ → Found → List ℕ → List ℕ → List ℕ → List ℕ → List ℕ → Said
+saidBy c n f x y z p q =
+    record {
+      found = f;
+      a = when (ltb 0 n) (value maxDigits x);
+      b = when (ltb 1 n) (value maxDigits (pickOf (eqb c 3 && eqb n 2) z y));
+      c = when (ltb 2 n) (value maxDigits z);
+      d = when (ltb 3 n) (value maxDigits p);
+      e = when (ltb 4 n) (value maxDigits q);
+    }
+
+-- of the fields x, y and what follows them
+unfoldable pub saidFields : ℕ → Found → List ℕ → List ℕ → List ℕ → Said
+saidFields c f x y v = saidBy c (sizeIn f) f x y (before tab v) (before tab (after tab v)) (before tab (after tab (after tab v)))
+
+-- of the first field and what follows it
+unfoldable pub saidAfter : ℕ → List ℕ → List ℕ → Said
+saidAfter c w t =
+    saidFields c (kindAt c w (before tab t) (before tab (after tab t))) (before tab t) (before tab (after tab t)) (after tab (after tab t))
+
+-- are the first n of five numbers written as they should be?
+unfoldable pub writtenBy : ℕ → ℕ → ℕ → ℕ → ℕ → ℕ → Bool
+writtenBy n a b c d e =
+    (leb n 0 || ltb a bad) && ((leb n 1 || ltb b bad) && ((leb n 2 || ltb c bad) && ((leb n 3 || ltb d bad) && (leb n 4 || ltb e bad))))

@@ -1,7 +1,0 @@
--- `writers::all_size` meets its contract. Assumes nothing.
-use Rattle.writers.specs.SizeLaws.{all-sized}
-use Rattle.writers.proofs.all_size.Statement.{statement}
-use Rattle.writers.proofs.all_size.Tie as tie
-
-pub all-size-spec : {M : Type 1} → statement M
-all-size-spec = tie.close (tie.spec (λ c. all-sized (c .args .fits)))

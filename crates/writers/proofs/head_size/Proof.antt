@@ -1,7 +1,0 @@
--- `writers::head_size` meets its contract. Assumes nothing.
-use Rattle.writers.specs.SizeLaws.{head-sized}
-use Rattle.writers.proofs.head_size.Statement.{statement}
-use Rattle.writers.proofs.head_size.Tie as tie
-
-pub head-size-spec : {M : Type 1} → statement M
-head-size-spec = tie.close (tie.spec (λ c. head-sized))
