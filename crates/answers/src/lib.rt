@@ -7,11 +7,13 @@ ghost use lib.ListN.{length};
 ghost use Rattle.search.specs.Row.{pushed};
 ghost use Rattle.plan_tables.specs.Layout.{over};
 ghost use Rattle.figures.specs.Tabled.{Fit, systemIn};
+ghost use Rattle.figures.specs.Kinds.{taskKind, taskTicks, taskRounds};
 ghost use Rattle.figures_slices.specs.Stored.{TasksIn, BlockingsIn, Stored};
 ghost use Rattle.figures_slices.specs.Store.{vcpuAnswers, waitAnswers, taskAnswers};
 ghost use Rattle.times_tasks.specs.Waits.{WaitsIn};
 ghost use Rattle.answers_told.specs.Read.{AnswersIn};
-ghost use Rattle.figures_slices.specs.Filled.{taskKind, taskTicks, taskRounds, taskAnswerRow};
+ghost use Rattle.figures_slices.specs.Filled.{taskAnswerRow};
+ghost use Rattle.plan.specs.Limits.{mostTasks};
 
 // What a task's answer is: 0 late, 1 fits, 2 nowait, 3 held.
 fn task_kind(a: TaskAnswer) -> u64
@@ -98,7 +100,7 @@ pub fn answers(
     ta: &mut [u64],
 )
     requires { ⌜ Fit r (now vt) (now mt) (now ts) × Stored r (now vt) (now mt) (now ts) (now tf) (now vf) (now rf) ⌝ }
-    requires { ⌜ (240 ≤ length (now rows)) × (64 ≤ length (now ws)) × (64 ≤ length (now fs)) × (48 ≤ length (now va)) × (r .tasks * 24 ≤ length (now wa)) × (r .tasks * 3 ≤ length (now ta)) ⌝ }
+    requires { ⌜ (240 ≤ length (now rows)) × (mostTasks ≤ length (now ws)) × (mostTasks ≤ length (now fs)) × (48 ≤ length (now va)) × (r .tasks * 24 ≤ length (now wa)) × (r .tasks * 3 ≤ length (now ta)) ⌝ }
     ensures { λ out. ⌜ (now (va .exit) ≡ over (vcpuAnswers (systemIn r (now (vt .entry)) (now (mt .entry)) (now (ts .entry)))) (now (va .entry))) × (now (wa .exit) ≡ over (waitAnswers (systemIn r (now (vt .entry)) (now (mt .entry)) (now (ts .entry)))) (now (wa .entry))) × (now (ta .exit) ≡ over (taskAnswers (systemIn r (now (vt .entry)) (now (mt .entry)) (now (ts .entry)))) (now (ta .entry))) ⌝ }
 {
     answers_waits::fill_vcpus(r, vt, mt, ts, tf, vf, rows, va);

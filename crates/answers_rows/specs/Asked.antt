@@ -1,11 +1,11 @@
--- What one row of lent tables answers, asked for by its names: 9 first, then 10 for what the plan lacks, else the definition's answer.
+-- What one row of lent tables answers, asked for by its names: 9 first (`ifGiven`), then 10 for what the plan lacks, else the definition's answer.
 use Prim.Native.Nat.{ℕ}
 use mathlib.Core.Bool.{Bool, true, false, _&&_}
 use Rattle.plan.specs.declared.Refusal.the-variants.{Foreign, Unknown}
 use Rattle.plan.specs.Lookup.{hasVcpu}
 use Rattle.plan_tables.specs.declared.PlanRecord.{PlanRecord}
 use Rattle.plan_tables.specs.Layout.{Tables}
-use Rattle.plan_tables.specs.Given.{planIn, isGiven}
+use Rattle.plan_tables.specs.Given.{ifGiven}
 use Rattle.figures.specs.System.{System, system}
 use Rattle.figures.specs.Figures.{vcpuAt, response}
 use Rattle.figures.specs.Named.{hasTask, taskAt, lockAt, hasSection}
@@ -38,15 +38,15 @@ taskRowOf s v n = elim (hasTask s v n) [ true ↦ TaskRow (taskAnswer s (taskAt 
 unfoldable pub responseRowOf : System → ℕ → ℕ → ℕ → FigureAnswer
 responseRowOf s v n i = elim (hasPlace s v n i) [ true ↦ Figure (response s (taskAt s v n) (lockAt (taskAt s v n) i)) | false ↦ NoFigure Unknown ]
 
--- OF LENT TABLES: "Calls on tables or a board test 9 first"
+-- OF LENT TABLES, 9 first
 unfoldable pub vcpuAsked : PlanRecord → Tables → ℕ → RowAnswer
-vcpuAsked r t v = elim (isGiven r t) [ true ↦ vcpuRowOf (system (planIn r t)) v | false ↦ NoRow Foreign ]
+vcpuAsked r t v = ifGiven r t (λ p. vcpuRowOf (system p) v) (NoRow Foreign)
 
 unfoldable pub waitAsked : PlanRecord → Tables → ℕ → ℕ → ℕ → RowAnswer
-waitAsked r t v n i = elim (isGiven r t) [ true ↦ waitRowOf (system (planIn r t)) v n i | false ↦ NoRow Foreign ]
+waitAsked r t v n i = ifGiven r t (λ p. waitRowOf (system p) v n i) (NoRow Foreign)
 
 unfoldable pub taskAsked : PlanRecord → Tables → ℕ → ℕ → TaskRowAnswer
-taskAsked r t v n = elim (isGiven r t) [ true ↦ taskRowOf (system (planIn r t)) v n | false ↦ NoTaskRow Foreign ]
+taskAsked r t v n = ifGiven r t (λ p. taskRowOf (system p) v n) (NoTaskRow Foreign)
 
 unfoldable pub responseAsked : PlanRecord → Tables → ℕ → ℕ → ℕ → FigureAnswer
-responseAsked r t v n i = elim (isGiven r t) [ true ↦ responseRowOf (system (planIn r t)) v n i | false ↦ NoFigure Foreign ]
+responseAsked r t v n i = ifGiven r t (λ p. responseRowOf (system p) v n i) (NoFigure Foreign)

@@ -13,21 +13,20 @@ use Rattle.laws.specs.RowLaws.{rows-length, rows-at}
 use Rattle.search.specs.declared.Answer.{Answer}
 use Rattle.search.specs.Search.{solve}
 use Rattle.plan.specs.declared.Refusal.the-variants.{Unknown}
-use Rattle.plan.specs.Plan.{Lock}
+use Rattle.plan.specs.declared.Lock.{Lock}
 use Rattle.plan.specs.Lookup.{global}
 use Rattle.plan.specs.Rules.{within}
 use Rattle.plan_tables.specs.declared.PlanRecord.{PlanRecord}
-use Rattle.plan_tables.specs.Layout.{Tables, cell, vcpuRow, lockRow, taskRow}
-use Rattle.plan_tables.specs.Given.{planIn, isGiven}
-use Rattle.figures.specs.System.{System, system}
+use Rattle.plan_tables.specs.Layout.{cell, vcpuRow, lockRow, taskRow, taskWidth}
+use Rattle.figures.specs.System.{System}
 use Rattle.figures.specs.Tabled.{systemIn}
-use Rattle.figures.specs.Figures.{waitStart, waitDemand, response}
+use Rattle.figures.specs.Figures.{waitStart, waitDemand, response, isSection}
 use Rattle.figures.specs.Named.{noLock, hasTask, taskAt, lockAt, hasSection}
 use Rattle.figures.specs.declared.TaskAnswer.{TaskAnswer}
 use Rattle.figures.specs.Answers.{vcpuAnswer, waitAnswer, taskAnswer}
 use Rattle.figures_found.specs.First.{VcpuFirst, TaskFirst, vcpu-test, vcpu-is, task-test, task-is}
+use Rattle.figures_slices.specs.Filled.{sectionAt}
 use Rattle.figures_slices.specs.Stored.{sectionResponse, Responses}
-use Rattle.figures_slices.specs.FitLaws.{system-in}
 use Rattle.answers_rows.specs.Asked.{Row, NoRow, TaskRow, NoTaskRow, Figure, NoFigure, hasPlace, vcpuRowOf, waitRowOf, taskRowOf, responseRowOf}
 
 -- A CHOICE that is known
@@ -105,48 +104,40 @@ module _ (r : PlanRecord) (vt mt ts : List ℕ) (v n : ℕ) {i : ℕ} (h : TaskF
     unfolding responseRowOf
     response-nowhere l d f = passed _ _ (has-place l d ∙ f)
 
--- OF LENT TABLES
-module _ {A : Type 0} (r : PlanRecord) (t : Tables) (f : System → A) (no : A) {b : Bool} (e : b ≡ isGiven r t) where
-  pub given-asked : {a : A} → b ≡ true → a ≡ f (systemIn r (t .vcpus) (t .mutexes) (t .tasks)) → a ≡ elim (isGiven r t) [ true ↦ f (system (planIn r t)) | false ↦ no ]
-  given-asked h k = k ∙ ap f (sym (system-in r t)) ∙ chosen _ _ (sym e ∙ h)
-
-  pub foreign-asked : b ≡ false → no ≡ elim (isGiven r t) [ true ↦ f (system (planIn r t)) | false ↦ no ]
-  foreign-asked h = passed _ _ (sym e ∙ h)
-
 -- A LOCK BY ITS PLACE, counted from 1
 module _ (s : System) (ts : List ℕ) (k i : ℕ) where
-  lock-is : 1 ≤ i → i ≤ cell ts 29 k 4 → lockAt (taskRow ts k) i ≡ lockRow ts k (i - 1)
+  lock-is : 1 ≤ i → i ≤ cell ts taskWidth k 4 → lockAt (taskRow ts k) i ≡ lockRow ts k (i - 1)
   unfolding lockAt taskRow
-  lock-is h l = rows-at (cell ts 29 k 4) (i - 1) (lockRow ts k) noLock (omega arith)
+  lock-is h l = rows-at (cell ts taskWidth k 4) (i - 1) (lockRow ts k) noLock (omega arith)
 
-  locks-are : length (taskRow ts k .locks) ≡ cell ts 29 k 4
+  locks-are : length (taskRow ts k .locks) ≡ cell ts taskWidth k 4
   unfolding taskRow
-  locks-are = rows-length (cell ts 29 k 4) (lockRow ts k)
+  locks-are = rows-length (cell ts taskWidth k 4) (lockRow ts k)
 
   -- task k has n locks, and lock i locks m
   pub section-at :
-      {n m : ℕ} {b : Bool} → n ≡ cell ts 29 k 4 → 1 ≤ i → i ≤ n → m ≡ cell ts 29 k (5 + ((i - 1) * 3 + 0)) → b ≡ global (s .mutexes) m →
+      {n m : ℕ} {b : Bool} → n ≡ cell ts taskWidth k 4 → 1 ≤ i → i ≤ n → m ≡ cell ts taskWidth k (5 + ((i - 1) * 3 + 0)) → b ≡ global (s .mutexes) m →
       b ≡ hasSection s (taskRow ts k) i
   unfolding hasSection lockRow
   section-at e h l f g =
       g
       ∙ ap (global (s .mutexes)) (f ∙ ap (λ (x : Lock). x .m) (sym (lock-is h (omega arith))))
-      ∙ ap (λ c. c && global (s .mutexes) (lockAt (taskRow ts k) i .m)) (sym (both (leb 1 i) (leb i (length (taskRow ts k .locks))) (le-leb 1 i h) (rw locks-are (le-leb i (cell ts 29 k 4) (omega arith)))))
+      ∙ ap (λ c. c && isSection s (lockAt (taskRow ts k) i)) (sym (both (leb 1 i) (leb i (length (taskRow ts k .locks))) (le-leb 1 i h) (rw locks-are (le-leb i (cell ts taskWidth k 4) (omega arith)))))
 
   pub section-below : i < 1 → false ≡ hasSection s (taskRow ts k) i
   unfolding hasSection
   section-below h =
       sym (miss-left (within i 1 (length (taskRow ts k .locks))) _ (miss-left (leb 1 i) _ (lt-leb 1 i h)))
 
-  pub section-beyond : {n : ℕ} → n ≡ cell ts 29 k 4 → n < i → false ≡ hasSection s (taskRow ts k) i
+  pub section-beyond : {n : ℕ} → n ≡ cell ts taskWidth k 4 → n < i → false ≡ hasSection s (taskRow ts k) i
   unfolding hasSection
   section-beyond e h =
       sym
       (miss-left (within i 1 (length (taskRow ts k .locks))) _
-      (miss-right (leb 1 i) _ (rw locks-are (lt-leb i (cell ts 29 k 4) (omega arith)))))
+      (miss-right (leb 1 i) _ (rw locks-are (lt-leb i (cell ts taskWidth k 4) (omega arith)))))
 
   module _ (h : hasSection s (taskRow ts k) i ≡ true) where
-    pub place-within : (1 ≤ i) × (i ≤ cell ts 29 k 4)
+    pub place-within : (1 ≤ i) × (i ≤ cell ts taskWidth k 4)
     unfolding hasSection
     place-within =
         let a = both-left (within i 1 (length (taskRow ts k .locks))) _ h in
@@ -155,18 +146,23 @@ module _ (s : System) (ts : List ℕ) (k i : ℕ) where
     place-lock : lockAt (taskRow ts k) i ≡ lockRow ts k (i - 1)
     place-lock = let a = place-within in lock-is (a .0) (a .1)
 
-    place-global : global (s .mutexes) (lockRow ts k (i - 1) .m) ≡ true
+    place-global : isSection s (lockRow ts k (i - 1)) ≡ true
     unfolding hasSection
-    place-global = ap (λ (x : Lock). global (s .mutexes) (x .m)) (sym place-lock) ∙ both-right (within i 1 (length (taskRow ts k .locks))) _ h
+    place-global = ap (λ (x : Lock). isSection s x) (sym place-lock) ∙ both-right (within i 1 (length (taskRow ts k .locks))) _ h
+
+    -- lock i of the task, counted from 1, is lock i - 1 of its row: a global section there too
+    place-section : sectionAt s ts k (i - 1) ≡ true
+    unfolding sectionAt
+    place-section = let a = place-within in both _ _ (lt-ltb (i - 1) (cell ts taskWidth k 4) (omega arith)) place-global
 
     -- its mutex m is global
-    pub lock-global : {m : ℕ} → m ≡ cell ts 29 k (5 + ((i - 1) * 3 + 0)) → global (s .mutexes) m ≡ true
+    pub lock-global : {m : ℕ} → m ≡ cell ts taskWidth k (5 + ((i - 1) * 3 + 0)) → global (s .mutexes) m ≡ true
     unfolding lockRow
     lock-global e = ap (global (s .mutexes)) e ∙ place-global
 
     -- a wait that was searched there
     pub wait-of :
-        {v m l : ℕ} → v ≡ cell ts 29 k 0 → m ≡ cell ts 29 k (5 + ((i - 1) * 3 + 0)) → l ≡ cell ts 29 k 2 →
+        {v m l : ℕ} → v ≡ cell ts taskWidth k 0 → m ≡ cell ts taskWidth k (5 + ((i - 1) * 3 + 0)) → l ≡ cell ts taskWidth k 2 →
         solve (waitDemand s v m) (waitStart s v m) l ≡ waitAnswer s (taskRow ts k) (lockAt (taskRow ts k) i)
     unfolding waitAnswer taskRow lockRow
     wait-of d e f = rw (d, e, f) (ap (waitAnswer s (taskRow ts k)) (sym place-lock))
@@ -176,9 +172,8 @@ module _ (s : System) (ts : List ℕ) (k i : ℕ) where
         getD rf (k * 8 + (i - 1)) 0 ≡ response s (taskRow ts k) (lockAt (taskRow ts k) i)
     unfolding sectionResponse when
     response-of g c l =
-        let a = place-within in
         let d : (k * 8 + (i - 1)) / 8 ≡ k = omega arith in
         let e : (k * 8 + (i - 1)) % 8 ≡ i - 1 = omega arith in
         g .at (k * 8 + (i - 1)) l .is
         ∙ ap₂ (sectionResponse s ts) d e
-        ∙ rw (place-lock, lt-ltb (i - 1) (cell ts 29 k 4) (omega arith), place-global)
+        ∙ rw (place-lock, place-section)

@@ -6,7 +6,7 @@ use search::Answer;
 ghost use mathlib.Core.Path.{_≡_};
 ghost use mathlib.Core.Bool.{true};
 ghost use Prim.Native.Nat.{_<_};
-ghost use Rattle.plan_tables.specs.Layout.{vcpuRow, taskRow};
+ghost use Rattle.plan_tables.specs.Layout.{lent, vcpuRow, taskRow};
 ghost use Rattle.figures.specs.Tabled.{Fit, systemIn};
 ghost use Rattle.figures.specs.Figures.{response};
 ghost use Rattle.figures.specs.Named.{lockAt, hasSection};
@@ -174,7 +174,7 @@ fn response_in(
 
 // How late VCPU v can finish: 9 first, then 10.
 pub fn vcpu_time(r: PlanRecord, vt: &[u64], mt: &[u64], ot: &[u64], ts: &[u64], v: u64) -> RowAnswer
-    ensures { λ a. ⌜ a ≡ vcpuAsked r (record { vcpus = now (vt .entry); mutexes = now (mt .entry); opens = now (ot .entry); tasks = now (ts .entry) }) v ⌝ }
+    ensures { λ a. ⌜ a ≡ vcpuAsked r (lent (now (vt .entry)) (now (mt .entry)) (now (ot .entry)) (now (ts .entry))) v ⌝ }
 {
     if !given_test::is_given(r, vt, mt, ot, ts) {
         return RowAnswer::NoRow(Refusal::Foreign);
@@ -193,7 +193,7 @@ pub fn wait_time(
     n: u64,
     i: u64,
 ) -> RowAnswer
-    ensures { λ a. ⌜ a ≡ waitAsked r (record { vcpus = now (vt .entry); mutexes = now (mt .entry); opens = now (ot .entry); tasks = now (ts .entry) }) v n i ⌝ }
+    ensures { λ a. ⌜ a ≡ waitAsked r (lent (now (vt .entry)) (now (mt .entry)) (now (ot .entry)) (now (ts .entry))) v n i ⌝ }
 {
     if !given_test::is_given(r, vt, mt, ot, ts) {
         return RowAnswer::NoRow(Refusal::Foreign);
@@ -211,7 +211,7 @@ pub fn task_time(
     v: u64,
     n: u64,
 ) -> TaskRowAnswer
-    ensures { λ a. ⌜ a ≡ taskAsked r (record { vcpus = now (vt .entry); mutexes = now (mt .entry); opens = now (ot .entry); tasks = now (ts .entry) }) v n ⌝ }
+    ensures { λ a. ⌜ a ≡ taskAsked r (lent (now (vt .entry)) (now (mt .entry)) (now (ot .entry)) (now (ts .entry))) v n ⌝ }
 {
     if !given_test::is_given(r, vt, mt, ot, ts) {
         return TaskRowAnswer::NoTaskRow(Refusal::Foreign);
@@ -230,7 +230,7 @@ pub fn section_response(
     n: u64,
     i: u64,
 ) -> FigureAnswer
-    ensures { λ a. ⌜ a ≡ responseAsked r (record { vcpus = now (vt .entry); mutexes = now (mt .entry); opens = now (ot .entry); tasks = now (ts .entry) }) v n i ⌝ }
+    ensures { λ a. ⌜ a ≡ responseAsked r (lent (now (vt .entry)) (now (mt .entry)) (now (ot .entry)) (now (ts .entry))) v n i ⌝ }
 {
     if !given_test::is_given(r, vt, mt, ot, ts) {
         return FigureAnswer::NoFigure(Refusal::Foreign);

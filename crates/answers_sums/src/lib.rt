@@ -6,12 +6,13 @@ ghost use Prim.Native.Nat.{_*_, _<_, _≤_};
 ghost use lib.ListN.{length};
 ghost use Rattle.laws.specs.Choice.{when};
 ghost use Rattle.laws.specs.Rows.{Is};
-ghost use Rattle.plan.specs.Lookup.{global};
-ghost use Rattle.plan_tables.specs.Layout.{cell, lockRow, taskRow};
+ghost use Rattle.plan_tables.specs.Layout.{cell, lockRow, taskRow, taskWidth};
 ghost use Rattle.figures.specs.Tabled.{Fit, systemIn};
 ghost use Rattle.figures.specs.Answers.{waitAnswer, ticksOf, isLate, remoteWaits, lacksWait};
-ghost use Rattle.figures_slices.specs.Stored.{Held as HeldAt};
+ghost use Rattle.figures.specs.Figures.{isSection};
+ghost use Rattle.figures_slices.specs.Stored.{ValuesAt};
 ghost use Rattle.figures_slices.specs.Filled.{Places};
+ghost use Rattle.plan.specs.Limits.{mostTasks};
 
 // The remote wait of task i at its lock j, 0 where it is late or the lock is no global section.
 fn wait_ticks(
@@ -23,8 +24,8 @@ fn wait_ticks(
     i: usize,
     j: usize,
 ) -> u64
-    requires { ⌜ Fit r (now vt) (now mt) (now ts) × Places (systemIn r (now vt) (now mt) (now ts)) (now ts) (r .tasks * 8) (now wa) × (i < r .tasks) × (j < 8) × (j < cell (now ts) 29 i 4) ⌝ }
-    ensures { λ x. ⌜ Is x (when (global (systemIn r (now (vt .entry)) (now (mt .entry)) (now (ts .entry)) .mutexes) (lockRow (now (ts .entry)) i j .m)) (ticksOf (waitAnswer (systemIn r (now (vt .entry)) (now (mt .entry)) (now (ts .entry))) (taskRow (now (ts .entry)) i) (lockRow (now (ts .entry)) i j)))) 1000000 ⌝ }
+    requires { ⌜ Fit r (now vt) (now mt) (now ts) × Places (systemIn r (now vt) (now mt) (now ts)) (now ts) (r .tasks * 8) (now wa) × (i < r .tasks) × (j < 8) × (j < cell (now ts) taskWidth i 4) ⌝ }
+    ensures { λ x. ⌜ Is x (when (isSection (systemIn r (now (vt .entry)) (now (mt .entry)) (now (ts .entry))) (lockRow (now (ts .entry)) i j)) (ticksOf (waitAnswer (systemIn r (now (vt .entry)) (now (mt .entry)) (now (ts .entry))) (taskRow (now (ts .entry)) i) (lockRow (now (ts .entry)) i j)))) 1000000 ⌝ }
 {
     wa[(i * 8 + j) * 3 + 1]
 }
@@ -55,8 +56,8 @@ fn wait_late(
     i: usize,
     j: usize,
 ) -> bool
-    requires { ⌜ Fit r (now vt) (now mt) (now ts) × Places (systemIn r (now vt) (now mt) (now ts)) (now ts) (r .tasks * 8) (now wa) × (i < r .tasks) × (j < 8) × (j < cell (now ts) 29 i 4) ⌝ }
-    ensures { λ x. ⌜ x ≡ (global (systemIn r (now (vt .entry)) (now (mt .entry)) (now (ts .entry)) .mutexes) (lockRow (now (ts .entry)) i j .m) && isLate (waitAnswer (systemIn r (now (vt .entry)) (now (mt .entry)) (now (ts .entry))) (taskRow (now (ts .entry)) i) (lockRow (now (ts .entry)) i j))) ⌝ }
+    requires { ⌜ Fit r (now vt) (now mt) (now ts) × Places (systemIn r (now vt) (now mt) (now ts)) (now ts) (r .tasks * 8) (now wa) × (i < r .tasks) × (j < 8) × (j < cell (now ts) taskWidth i 4) ⌝ }
+    ensures { λ x. ⌜ x ≡ (isSection (systemIn r (now (vt .entry)) (now (mt .entry)) (now (ts .entry))) (lockRow (now (ts .entry)) i j) && isLate (waitAnswer (systemIn r (now (vt .entry)) (now (mt .entry)) (now (ts .entry))) (taskRow (now (ts .entry)) i) (lockRow (now (ts .entry)) i j))) ⌝ }
 {
     let m = figures_cells::lock_cell(r, vt, mt, ts, i, j, 0);
     figures_cells::is_global(r, vt, mt, ts, m) & (wa[(i * 8 + j) * 3] == 0)
@@ -87,8 +88,8 @@ fn flag_of(b: bool) -> u64
 
 // Stores the remote waits of each task.
 pub fn fill_sums(r: PlanRecord, vt: &[u64], mt: &[u64], ts: &[u64], wa: &[u64], ws: &mut [u64])
-    requires { ⌜ Fit r (now vt) (now mt) (now ts) × Places (systemIn r (now vt) (now mt) (now ts)) (now ts) (r .tasks * 8) (now wa) × (64 ≤ length (now ws)) ⌝ }
-    ensures { λ out. ⌜ HeldAt (λ i. i) 8000000 (r .tasks) (λ i. remoteWaits (systemIn r (now (vt .entry)) (now (mt .entry)) (now (ts .entry))) (taskRow (now (ts .entry)) i)) (now (ws .exit)) ⌝ }
+    requires { ⌜ Fit r (now vt) (now mt) (now ts) × Places (systemIn r (now vt) (now mt) (now ts)) (now ts) (r .tasks * 8) (now wa) × (mostTasks ≤ length (now ws)) ⌝ }
+    ensures { λ out. ⌜ ValuesAt (λ i. i) 8000000 (r .tasks) (λ i. remoteWaits (systemIn r (now (vt .entry)) (now (mt .entry)) (now (ts .entry))) (taskRow (now (ts .entry)) i)) (now (ws .exit)) ⌝ }
 {
     let n = r.tasks;
     let mut i = 0;
@@ -101,8 +102,8 @@ pub fn fill_sums(r: PlanRecord, vt: &[u64], mt: &[u64], ts: &[u64], wa: &[u64], 
 
 // Stores which tasks lack a wait.
 pub fn fill_flags(r: PlanRecord, vt: &[u64], mt: &[u64], ts: &[u64], wa: &[u64], fs: &mut [u64])
-    requires { ⌜ Fit r (now vt) (now mt) (now ts) × Places (systemIn r (now vt) (now mt) (now ts)) (now ts) (r .tasks * 8) (now wa) × (64 ≤ length (now fs)) ⌝ }
-    ensures { λ out. ⌜ HeldAt (λ i. i) 1 (r .tasks) (λ i. when (lacksWait (systemIn r (now (vt .entry)) (now (mt .entry)) (now (ts .entry))) (taskRow (now (ts .entry)) i)) 1) (now (fs .exit)) ⌝ }
+    requires { ⌜ Fit r (now vt) (now mt) (now ts) × Places (systemIn r (now vt) (now mt) (now ts)) (now ts) (r .tasks * 8) (now wa) × (mostTasks ≤ length (now fs)) ⌝ }
+    ensures { λ out. ⌜ ValuesAt (λ i. i) 1 (r .tasks) (λ i. when (lacksWait (systemIn r (now (vt .entry)) (now (mt .entry)) (now (ts .entry))) (taskRow (now (ts .entry)) i)) 1) (now (fs .exit)) ⌝ }
 {
     let n = r.tasks;
     let mut i = 0;

@@ -5,24 +5,14 @@ use mathlib.Core.Bool.{Bool, true}
 use mathlib.Core.List.{List}
 use lib.Dec.{eqb}
 use lib.ListN.{length, getD}
-use Rattle.laws.specs.Choice.{if_then_else_}
 use Rattle.search.specs.declared.Answer.{Answer}
-use Rattle.search.specs.declared.Answer.the-variants.{Fits, Late}
-use Rattle.plan.specs.Lookup.{global}
 use Rattle.plan_tables.specs.declared.PlanRecord.{PlanRecord}
-use Rattle.plan_tables.specs.Layout.{cell, vcpuRow, lockRow, taskRow}
+use Rattle.plan_tables.specs.Layout.{cell, vcpuRow, lockRow, taskRow, taskWidth}
 use Rattle.figures.specs.Tabled.{systemIn}
 use Rattle.figures.specs.declared.TaskAnswer.{TaskAnswer}
-use Rattle.figures.specs.declared.TaskAnswer.the-variants.{Searched, NoWait, Held}
 use Rattle.figures.specs.Answers.{vcpuAnswer, waitAnswer, taskAnswer}
-
--- three numbers as an answer: 1 is fits, else late
-abbrev pub answerOf : ℕ → ℕ → ℕ → Answer
-answerOf k w n = if eqb k 1 then Fits w n else Late n
-
--- as a task's answer: 2 is nowait, 3 is held
-abbrev pub taskAnswerOf : ℕ → ℕ → ℕ → TaskAnswer
-taskAnswerOf k w n = if eqb k 2 then NoWait else (if eqb k 3 then Held else Searched (answerOf k w n))
+use Rattle.figures.specs.Figures.{isSection}
+use Rattle.figures.specs.Kinds.{answerOf, taskAnswerOf}
 
 -- the answers at place k
 unfoldable pub answerIn : List ℕ → ℕ → Answer
@@ -42,7 +32,7 @@ pub record VcpuAnswersIn (r : PlanRecord) (vt mt ts va : List ℕ) : Type 0 wher
 
 pub record WaitAnswersIn (r : PlanRecord) (vt mt ts wa : List ℕ) : Type 0 where
   pub room : r .tasks * 24 ≤ length wa
-  pub at : (i j : ℕ) → i < r .tasks → j < cell ts 29 i 4 → global (systemIn r vt mt ts .mutexes) (lockRow ts i j .m) ≡ true
+  pub at : (i j : ℕ) → i < r .tasks → j < cell ts taskWidth i 4 → isSection (systemIn r vt mt ts) (lockRow ts i j) ≡ true
       → answerIn wa (i * 8 + j) ≡ waitAnswer (systemIn r vt mt ts) (taskRow ts i) (lockRow ts i j)
 
 pub record TaskAnswersIn (r : PlanRecord) (vt mt ts ta : List ℕ) : Type 0 where

@@ -17,40 +17,32 @@ use Rattle.search.specs.declared.Answer.{Answer}
 use Rattle.search.specs.declared.Answer.the-variants.{Fits, Late}
 use Rattle.search.specs.Row.{Row, rowIn}
 use Rattle.plan.specs.Plan.{Vcpu, Task}
-use Rattle.plan.specs.Lookup.{global}
 use Rattle.plan_tables.specs.declared.PlanRecord.{PlanRecord}
-use Rattle.plan_tables.specs.Layout.{cell, over, vcpuRow, lockRow, taskRow}
+use Rattle.plan_tables.specs.Layout.{cell, over, vcpuRow, lockRow, taskRow, taskWidth}
 use Rattle.plan_tables.specs.FlatLaws.{flat-cell, each-of}
 use Rattle.figures.specs.System.{System}
 use Rattle.figures.specs.Tabled.{Fit, systemIn}
 use Rattle.figures.specs.declared.TaskAnswer.{TaskAnswer}
 use Rattle.figures.specs.declared.TaskAnswer.the-variants.{Searched, NoWait, Held}
 use Rattle.figures.specs.Answers.{vcpuAnswer, waitAnswer, taskAnswer, isFits, taskFits, allFit}
+use Rattle.figures.specs.Figures.{isSection}
+use Rattle.figures.specs.Kinds.{answerOf, taskAnswerOf}
+use Rattle.figures.specs.KindLaws.{answer-back, task-back}
 use Rattle.figures_slices.specs.Store.{vcpuAnswers, waitAnswers, taskAnswers}
-use Rattle.figures_slices.specs.Filled.{rowCells, answerRow, taskAnswerRow, isSection, placeRow, placeAt, Filled}
+use Rattle.figures_slices.specs.Filled.{rowCells, answerRow, taskAnswerRow, sectionAt, placeRow, placeAt, Filled}
 use Rattle.figures_slices.specs.FilledLaws.{front-length}
 use Rattle.figures_slices.specs.Places.{place-section, vcpus-over, waits-over, tasks-over}
-use Rattle.answers_told.specs.Read.{answerOf, taskAnswerOf, answerIn, taskAnswerIn, fitsIn, VcpuAnswersIn, WaitAnswersIn, TaskAnswersIn, AnswersIn}
+use Rattle.answers_told.specs.Read.{answerIn, taskAnswerIn, fitsIn, VcpuAnswersIn, WaitAnswersIn, TaskAnswersIn, AnswersIn}
 
 -- AN ANSWER'S NUMBERS ARE THAT ANSWER
 
-answer-back : (a : Answer) → (x : Row) → x ≡ answerRow a → answerOf (x .shift) (x .period) (x .cost) ≡ a
-answer-back (Fits w n) x e = rw e
-answer-back (Late n) x e = rw e
-
-task-back : (a : TaskAnswer) → (x : Row) → x ≡ taskAnswerRow a → taskAnswerOf (x .shift) (x .period) (x .cost) ≡ a
-task-back (Searched (Fits w n)) x e = rw e
-task-back (Searched (Late n)) x e = rw e
-task-back NoWait x e = rw e
-task-back Held x e = rw e
-
 answer-read : (xs : List ℕ) (k : ℕ) (a : Answer) → rowIn xs k ≡ answerRow a → answerIn xs k ≡ a
 unfolding answerIn rowIn
-answer-read xs k a e = answer-back a (rowIn xs k) e
+answer-read xs k a e = ap (λ x. answerOf (x .shift) (x .period) (x .cost)) e ∙ answer-back a
 
 task-read : (xs : List ℕ) (k : ℕ) (a : TaskAnswer) → rowIn xs k ≡ taskAnswerRow a → taskAnswerIn xs k ≡ a
 unfolding taskAnswerIn rowIn
-task-read xs k a e = task-back a (rowIn xs k) e
+task-read xs k a e = ap (λ x. taskAnswerOf (x .shift) (x .period) (x .cost)) e ∙ task-back a
 
 -- WHOLE SLICES
 
@@ -111,14 +103,14 @@ module _ {r : PlanRecord} {vt mt ts : List ℕ} (fit : Fit r vt mt ts) where
       }
 
   -- lock j of task i is a global section
-  section-row : (s : System) (i j : ℕ) → j < 8 → j < cell ts 29 i 4 → global (s .mutexes) (lockRow ts i j .m) ≡ true
+  section-row : (s : System) (i j : ℕ) → j < 8 → j < cell ts taskWidth i 4 → isSection s (lockRow ts i j) ≡ true
       → placeAt s ts (i * 8 + j) ≡ answerRow (waitAnswer s (taskRow ts i) (lockRow ts i j))
-  unfolding isSection
+  unfolding sectionAt
   section-row s i j l c g =
       let a : (i * 8 + j) / 8 ≡ i = omega arith in
       let b : (i * 8 + j) % 8 ≡ j = omega arith in
       ap₂ (placeRow s ts) a b
-      ∙ sym (place-section s ts i j (sym (both (ltb j (cell ts 29 i 4)) (global (s .mutexes) (lockRow ts i j .m)) (lt-ltb j (cell ts 29 i 4) c) g)) refl)
+      ∙ sym (place-section s ts i j (sym (both (ltb j (cell ts taskWidth i 4)) (isSection s (lockRow ts i j)) (lt-ltb j (cell ts taskWidth i 4) c) g)) refl)
 
   waits-in : (wa₀ : List ℕ) {wa : List ℕ} → r .tasks * 24 ≤ length wa₀ → length wa ≡ length wa₀ → wa ≡ over (waitAnswers (systemIn r vt mt ts)) wa₀ → WaitAnswersIn r vt mt ts wa
   unfolding systemIn

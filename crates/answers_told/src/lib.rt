@@ -9,7 +9,8 @@ ghost use Rattle.laws.specs.Sums.{all};
 ghost use Rattle.laws.specs.Rows.{rows};
 ghost use Rattle.figures.specs.Tabled.{Fit, systemIn};
 ghost use Rattle.figures.specs.Answers.{allFit};
-ghost use Rattle.answers_told.specs.Read.{answerOf, taskAnswerOf, answerIn, taskAnswerIn, fitsIn, VcpuAnswersIn, TaskAnswersIn};
+ghost use Rattle.figures.specs.Kinds.{answerOf, taskAnswerOf};
+ghost use Rattle.answers_told.specs.Read.{answerIn, taskAnswerIn, fitsIn, VcpuAnswersIn, TaskAnswersIn};
 
 fn answer_of(k: u64, w: u64, n: u64) -> Answer
     ensures { λ a. ⌜ a ≡ answerOf k w n ⌝ }

@@ -7,13 +7,14 @@ ghost use Prim.Native.Nat.{ℕ, _+_, _*_, _<_, _≤_};
 ghost use lib.ListN.{length};
 ghost use Rattle.search.specs.Search.{rounds};
 ghost use Rattle.search.specs.Row.{rowIn, pushed};
-ghost use Rattle.plan.specs.Lookup.{global};
 ghost use Rattle.plan_tables.specs.Layout.{over, lockRow, taskRow};
 ghost use Rattle.figures.specs.Tabled.{Fit, systemIn};
 ghost use Rattle.figures.specs.Answers.{waitAnswer, ticksOf};
+ghost use Rattle.figures.specs.Figures.{isSection};
+ghost use Rattle.figures.specs.Kinds.{answerKind};
 ghost use Rattle.figures_slices.specs.Stored.{TasksIn, VcpusIn, ResponsesIn};
 ghost use Rattle.figures_slices.specs.Store.{vcpuAnswers, waitAnswers};
-ghost use Rattle.figures_slices.specs.Filled.{answerKind, answerRow, isSection, placeAt, Places};
+ghost use Rattle.figures_slices.specs.Filled.{answerRow, sectionAt, placeAt, Places};
 
 // What an answer is: 0 late, 1 fits.
 pub fn kind_of(a: Answer) -> u64
@@ -82,7 +83,7 @@ pub fn fill_vcpus(
 // Is lock j of task i a global section?
 fn is_section(r: PlanRecord, vt: &[u64], mt: &[u64], ts: &[u64], i: usize, j: usize) -> bool
     requires { ⌜ Fit r (now vt) (now mt) (now ts) × (i < r .tasks) × (j < 8) ⌝ }
-    ensures { λ x. ⌜ x ≡ isSection (systemIn r (now (vt .entry)) (now (mt .entry)) (now (ts .entry))) (now (ts .entry)) i j ⌝ }
+    ensures { λ x. ⌜ x ≡ sectionAt (systemIn r (now (vt .entry)) (now (mt .entry)) (now (ts .entry))) (now (ts .entry)) i j ⌝ }
 {
     let m = figures_cells::lock_cell(r, vt, mt, ts, i, j, 0);
     (j < figures_cells::lock_count(r, vt, mt, ts, i)) & figures_cells::is_global(r, vt, mt, ts, m)
@@ -99,7 +100,7 @@ fn wait_at(
     i: usize,
     j: usize,
 ) -> Answer
-    requires { ⌜ Fit r (now vt) (now mt) (now ts) × ResponsesIn r (now vt) (now mt) (now ts) (now rf) × (r .tasks * 8 ≤ length (now rf)) × (i < r .tasks) × (j < 8) × (global (systemIn r (now vt) (now mt) (now ts) .mutexes) (lockRow (now ts) i j .m) ≡ true) × (240 ≤ length (now rows)) ⌝ }
+    requires { ⌜ Fit r (now vt) (now mt) (now ts) × ResponsesIn r (now vt) (now mt) (now ts) (now rf) × (r .tasks * 8 ≤ length (now rf)) × (i < r .tasks) × (j < 8) × (isSection (systemIn r (now vt) (now mt) (now ts)) (lockRow (now ts) i j) ≡ true) × (240 ≤ length (now rows)) ⌝ }
     ensures { λ x. ⌜ x ≡ waitAnswer (systemIn r (now (vt .entry)) (now (mt .entry)) (now (ts .entry))) (taskRow (now (ts .entry)) i) (lockRow (now (ts .entry)) i j) ⌝ }
 {
     let v = figures_cells::task_cell(r, vt, mt, ts, i, 0);

@@ -5,7 +5,7 @@ use mathlib.Core.Bool.{Bool, false}
 use native.Mathlib.Omega.{arith}
 use lib.ListN.{getD, set}
 use lib.Seq.{getD-set-same, getD-set-other}
-use Rattle.plan.specs.Limits.{maxV, maxN}
+use Rattle.plan.specs.Limits.{maxV, mostN}
 use Rattle.board_rules.specs.declared.Board.{Board}
 use Rattle.board_rules.specs.Board.{seat, leftOf, overOf, isStopped, holderOf, waitOf, withLeft, withHolder, withWait}
 use Rattle.board_keeps.specs.Fair.{InV, InN, InM}
@@ -18,7 +18,7 @@ seat-one v n x j a b c d e = (omega arith, omega arith)
 pub seat-some : (v n : ℕ) → InN n → seat v n ≡ 0 → ⊥
 seat-some v n i e = omega arith
 
-pub seat-to : (v n : ℕ) → InV v → InN n → seat v n ≤ maxV * maxN
+pub seat-to : (v n : ℕ) → InV v → InN n → seat v n ≤ maxV * mostN
 seat-to v n i j = omega arith
 
 module _ {b : Board} (s : Shaped b) where

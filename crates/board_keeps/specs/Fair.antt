@@ -2,21 +2,19 @@
 use Prim.Native.Nat.{ℕ, _≤_, _<_}
 use mathlib.Core.Path.{_≡_}
 use mathlib.Core.Bool.{true, false}
-use Rattle.plan.specs.Limits.{maxV, maxM, maxN}
+use Rattle.laws.specs.Range.{OneTo}
+use Rattle.plan.specs.Limits.{maxV, maxM, mostN}
 use Rattle.board_rules.specs.Facts.{Facts}
 
--- v, m and n are names that a plan may use
-pub record InV (v : ℕ) : Type 0 where
-  pub from : 0 < v
-  pub to : v ≤ maxV
+-- v, n and m are names that a board has places for
+abbrev pub InV : ℕ → Type 0
+InV v = OneTo maxV v
 
-pub record InN (n : ℕ) : Type 0 where
-  pub from : 0 < n
-  pub to : n ≤ maxN
+abbrev pub InN : ℕ → Type 0
+InN n = OneTo mostN n
 
-pub record InM (m : ℕ) : Type 0 where
-  pub from : 0 < m
-  pub to : m ≤ maxM
+abbrev pub InM : ℕ → Type 0
+InM m = OneTo maxM m
 
 pub record Fair (F : Facts) : Type 0 where
   -- a VCPU of the plan is in range and has a budget; another has neither budget nor overrun

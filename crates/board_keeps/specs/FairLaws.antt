@@ -1,20 +1,21 @@
 -- The facts of a valid plan are fair.
 use Prim.Native.Nat.{ℕ, _≤_, _<_}
 use mathlib.Core.Path.{_≡_, refl, sym, ap, subst, _∙_}
-use mathlib.Core.Bool.{Bool, true, false, _&&_}
+use mathlib.Core.Bool.{Bool, true, false, _&&_, false≢true}
 use mathlib.Core.List.{List, [], _∷_}
-use mathlib.Core.Logic.{_⊎_, ⊎-elim}
+use mathlib.Core.Logic.{⊎-elim}
 use native.Mathlib.Omega.{arith}
 use borrow.Author.Tests.{eqb-true, ne-eqb}
 use lib.Dec.{eqb}
-use Rattle.laws.specs.BoolLaws.{both-left, both-right}
+use Rattle.laws.specs.BoolLaws.{both-left, both-right, clash, is-false, either-of}
 use Rattle.laws.specs.Choice.{when}
-use Rattle.laws.specs.Sums.{any, first, sum, greatest, Each, Chain}
-use Rattle.laws.specs.SumLaws.{each-map, first-none, each-flat}
+use Rattle.laws.specs.Sums.{any, Each, Chain}
+use Rattle.laws.specs.SumLaws.{each-map, first-none, each-flat, Passing, any-row, first-each, sum-zero, greatest-row}
 use Rattle.plan.specs.Limits.{maxN}
 use Rattle.plan.specs.declared.OverrunChoice.{OverrunChoice}
 use Rattle.plan.specs.declared.OverrunChoice.the-variants.{WithOverrun, WithoutOverrun}
-use Rattle.plan.specs.Plan.{Vcpu, Owner, Global, Local, Mutex, Open, Lock, Task, Plan, tasksOf}
+use Rattle.plan.specs.declared.Lock.{Lock}
+use Rattle.plan.specs.Plan.{Vcpu, Owner, Global, Local, Mutex, Open, Task, Plan, tasksOf}
 use Rattle.plan.specs.Lookup.{isGlobal, isLocalTo, hasVcpu, hasMutex, global, localTo}
 use Rattle.plan.specs.Valid.{VcpuValid, MutexValid, LockValid, TaskValid, Valid}
 use Rattle.plan.specs.ListLaws.{any-weaker, chain-rest, rising-above}
@@ -25,45 +26,6 @@ use Rattle.board_rules.specs.Facts.{factsOf}
 use Rattle.figures.specs.Named as named
 use Rattle.board_rules.specs.Facts as facts
 use Rattle.board_keeps.specs.Fair.{Fair, InV, InN, InM}
-use Rattle.board_keeps.specs.Cases.{never, clash, is-false, either-of}
-
--- ROWS
-
--- a row that passes f, and P holds of it
-record Row {A : Type 0} (f : A → Bool) (P : A → Type 0) : Type 0 where
-  row : A
-  passes : f row ≡ true
-  has : P row
-
-any-row : {A : Type 0} (f : A → Bool) (P : A → Type 0) (xs : List A) → any f xs ≡ true → Each P xs → Row f P
-unfolding any
-any-row f P [] e h = absurd (never (sym e))
-any-row f P (x ∷ xs) e h =
-    let ih = any-row f P xs in
-    ⊎-elim (λ p. record { row = x; passes = p; has = h .0 }) (λ p. ih p (h .1)) (either-of (f x) (any f xs) e)
-
--- what holds of every row holds of the first row that passes, where one does
-first-has : {A : Type 0} (f : A → Bool) (P : A → Type 0) (d : A) (xs : List A) → any f xs ≡ true → Each P xs → P (first f d xs)
-unfolding any first
-first-has f P d [] e h = absurd (never (sym e))
-first-has f P d (x ∷ xs) e h = go (f x) (either-of (f x) (any f xs) e) (λ q. first-has f P d xs q (h .1))
-  where
-    go : (t : Bool) → (t ≡ true) ⊎ (any f xs ≡ true) → (any f xs ≡ true → P (first f d xs)) → P (elim t [ true ↦ x | false ↦ first f d xs ])
-    go true o ih = h .0
-    go false o ih = ⊎-elim (λ q. absurd (never (sym q))) ih o
-
-sum-zero : {A : Type 0} (f : A → ℕ) (xs : List A) → Each (λ x. f x ≡ 0) xs → sum f xs ≡ 0
-unfolding sum
-sum-zero f [] h = refl
-sum-zero f (x ∷ xs) h = let a = h .0 in let c = sum-zero f xs (h .1) in omega arith
-
--- a row that passes gives at least n: so does the greatest
-greatest-row : {A : Type 0} (p : A → Bool) (f : A → ℕ) (n : ℕ) (xs : List A) → ((x : A) → p x ≡ true → n ≤ f x) → any p xs ≡ true → n ≤ greatest f xs
-unfolding any greatest
-greatest-row p f n [] h e = absurd (never (sym e))
-greatest-row p f n (x ∷ xs) h e =
-    let ih = greatest-row p f n xs h in
-    ⊎-elim (λ q. let l = h x q in omega arith) (λ q. let l = ih q in omega arith) (either-of (p x) (any p xs) e)
 
 -- MUTEXES RISE, so that a name has one row
 
@@ -76,7 +38,7 @@ record OneOwner (p q : Owner → Bool) : Type 0 where
 one-owner : (p q : Owner → Bool) (m : ℕ) (ms : List Mutex) → Chain (λ r s. r .m < s .m) ms →
     any (λ r. eqb (r .m) m && p (r .owner)) ms ≡ true → any (λ r. eqb (r .m) m && q (r .owner)) ms ≡ true → OneOwner p q
 unfolding any
-one-owner p q m [] c a d = absurd (never (sym a))
+one-owner p q m [] c a d = absurd (false≢true a)
 one-owner p q m (r ∷ rs) c a d =
     let ih = one-owner p q m rs (chain-rest (λ r s. r .m < s .m) r rs c) in
     ⊎-elim
@@ -96,11 +58,11 @@ one-owner p q m (r ∷ rs) c a d =
         let l = w .has in omega arith
 
 local-not-global : (v : ℕ) (o : Owner) → isLocalTo v o ≡ true → isGlobal o ≡ true → ⊥
-local-not-global v Global e f = never (sym e)
-local-not-global v (Local w) e f = never (sym f)
+local-not-global v Global e f = false≢true e
+local-not-global v (Local w) e f = false≢true f
 
 local-to-one : (v w : ℕ) (o : Owner) → isLocalTo v o ≡ true → isLocalTo w o ≡ true → v ≡ w
-local-to-one v w Global e f = absurd (never (sym e))
+local-to-one v w Global e f = absurd (false≢true e)
 local-to-one v w (Local x) e f = sym (eqb-true x v e) ∙ eqb-true x w f
 
 -- A SHEET'S ROWS
@@ -139,7 +101,7 @@ tasks-fair p h =
 -- THE FACTS
 
 module _ (p : Plan) (h : Valid p) where
-  vcpu-row : (v : ℕ) → hasVcpu (p .vcpus) v ≡ true → Row (λ r. eqb (r .v) v) VcpuValid
+  vcpu-row : (v : ℕ) → hasVcpu (p .vcpus) v ≡ true → Passing (λ r. eqb (r .v) v) VcpuValid (p .vcpus)
   unfolding hasVcpu
   vcpu-row v e = any-row (λ r. eqb (r .v) v) VcpuValid (p .vcpus) e (h .vcpus-valid)
 
@@ -152,7 +114,7 @@ module _ (p : Plan) (h : Valid p) where
 
   fair-budget : (v : ℕ) → hasVcpu (p .vcpus) v ≡ true → 0 < vcpuAt (system p) v .budget
   unfolding hasVcpu vcpuAt
-  fair-budget v e = first-has (λ r. eqb (r .v) v) VcpuValid noVcpu (p .vcpus) e (h .vcpus-valid) .budget-in .0
+  fair-budget v e = first-each (λ r. eqb (r .v) v) VcpuValid noVcpu (p .vcpus) (λ q. absurd (clash e q)) (h .vcpus-valid) .budget-in .0
 
   fair-no-budget : (v : ℕ) → hasVcpu (p .vcpus) v ≡ false → vcpuAt (system p) v .budget ≡ 0
   unfolding hasVcpu vcpuAt
@@ -180,7 +142,7 @@ module _ (p : Plan) (h : Valid p) where
       let k = r .row in
       let ev = eqb-true (k .v) v (both-left (eqb (k .v) v) _ (r .passes)) in
       let en = eqb-true (k .n) n (both-right (eqb (k .v) v) _ (r .passes)) in
-      (subst (λ x. hasVcpu (p .vcpus) x ≡ true) ev (r .has .v-declared), subst InN en (record { from = r .has .n-from; to = r .has .n-to }))
+      (subst (λ x. hasVcpu (p .vcpus) x ≡ true) ev (r .has .v-declared), subst InN en (record { from = r .has .n-from; to = let l = r .has .n-to in omega arith }))
 
   fair-mutex : (m : ℕ) → hasMutex (p .mutexes) m ≡ true → InM m
   unfolding hasMutex

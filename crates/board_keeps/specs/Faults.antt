@@ -6,7 +6,7 @@ use mathlib.Core.Logic.{⊎-elim}
 use borrow.Author.Tests.{leb-true, eqb-true, eqb-false, not-true, not-false}
 use lib.Dec.{eqb, leb}
 use Rattle.laws.specs.RangeLaws.{none-at}
-use Rattle.laws.specs.BoolLaws.{both-left, both-right, neither-left, neither-right}
+use Rattle.laws.specs.BoolLaws.{both-left, both-right, neither-left, neither-right, clash, bool-cases}
 use Rattle.plan.specs.Limits.{maxM, maxTicks}
 use Rattle.plan.specs.declared.Refusal.the-variants.{Range, Unknown, Unlisted, Asleep, Busy, NotHolder, Supply}
 use Rattle.plan.specs.declared.Fault.the-variants.{Clear}
@@ -16,7 +16,6 @@ use Rattle.board_rules.specs.Facts.{Facts}
 use Rattle.board_rules.specs.declared.Board.{Board}
 use Rattle.board_rules.specs.Board.{seat, holderOf, waitOf, holds, isBusy, isAsleep, supply, passes, mayHave, askFault, freeFault, useFault, topFault}
 use Rattle.board_keeps.specs.Fair.{Fair, InM}
-use Rattle.board_keeps.specs.Cases.{clash, bool-cases}
 use Rattle.board_keeps.specs.Good.{barred-fails}
 
 -- `ask v n m` is not refused: the sheet lists m, and the task neither holds nor waits

@@ -8,14 +8,13 @@ use borrow.Author.Tests.{leb-true, ltb-false, eqb-true, eqb-false, le-leb, le-lt
 use lib.Dec.{eqb, ltb, leb}
 use Rattle.laws.specs.Choice.{if_then_else_}
 use Rattle.laws.specs.Range.{allTo, highest}
-use Rattle.laws.specs.RangeLaws.{all-at, all-of, all-miss, highest-is}
-use Rattle.laws.specs.BoolLaws.{both-left, both-right, both, either-left, either-right, neither-left, neither-right}
-use Rattle.plan.specs.Limits.{maxV, maxM, maxN}
+use Rattle.laws.specs.RangeLaws.{all-at, all-of, all-miss, highest-is, miss-at}
+use Rattle.laws.specs.BoolLaws.{both-left, both-right, both, either-left, either-right, neither-left, neither-right, bool-cases, either-of, or-else}
+use Rattle.plan.specs.Limits.{maxV, maxM, mostN}
 use Rattle.board_rules.specs.Facts.{Facts}
 use Rattle.board_rules.specs.declared.Board.{Board}
 use Rattle.board_rules.specs.Board.{seat, leftOf, overOf, isStopped, holderOf, waitOf, holds, heldByOther, passes, underP, mustStop, budgetsGood, markGood, holdGood, waitGood, seatGood, good}
 use Rattle.board_keeps.specs.Fair.{Fair, InV, InN, InM, sheet-m}
-use Rattle.board_keeps.specs.Cases.{bool-cases, either-of, or-else, all-failed}
 use Rattle.board_keeps.specs.Locks.{Barred, Holding, Waiting}
 
 -- THE LOCAL TEST
@@ -23,13 +22,13 @@ use Rattle.board_keeps.specs.Locks.{Barred, Holding, Waiting}
 pub barred : (F : Facts) (b : Board) (v n : ℕ) → passes F b v n ≡ false → Barred F (holderOf b) v n
 unfolding passes
 barred F b v n e =
-    let r = all-failed maxM (λ m. not (F .localTo v m && heldByOther b v n m) || ltb (F .ceiling m) n) e in
+    let r = miss-at maxM (λ m. not (F .localTo v m && heldByOther b v n m) || ltb (F .ceiling m) n) e in
     let m = r .at in
     let p = not-false _ (neither-left (not (F .localTo v m && heldByOther b v n m)) (ltb (F .ceiling m) n) (r .is)) in
     let q = both-right (F .localTo v m) (heldByOther b v n m) p in
     record {
       by = m;
-      by-in = record { from = r .from; to = r .to };
+      by-in = r .within;
       is-local = both-left (F .localTo v m) (heldByOther b v n m) p;
       held = eqb-false (holderOf b m) 0 (not-true _ (both-left (not (eqb (holderOf b m) 0)) (not (holds b v n m)) q));
       by-other = eqb-false (holderOf b m) (seat v n) (not-true _ (both-right (not (eqb (holderOf b m) 0)) (not (holds b v n m)) q));
@@ -70,7 +69,7 @@ abbrev taskGood : Facts → Board → ℕ → ℕ → Bool
 taskGood F b v n = waitGood F b v n && allTo maxM (holdGood F b v n)
 
 abbrev tasksGood : Facts → Board → ℕ → Bool
-tasksGood F b v = allTo maxN (taskGood F b v)
+tasksGood F b v = allTo mostN (taskGood F b v)
 
 -- FROM THE TEST
 
@@ -85,7 +84,7 @@ module _ (F : Facts) (b : Board) (g : good F b ≡ true) where
 
   task-test : (v n : ℕ) → InV v → InN n → taskGood F b v n ≡ true
   task-test v n i j =
-      all-at maxN n (taskGood F b v) (all-at maxV v (tasksGood F b) (both-left (allTo maxV (tasksGood F b)) _ lock-test) (i .from) (i .to)) (j .from) (j .to)
+      all-at mostN n (taskGood F b v) (all-at maxV v (tasksGood F b) (both-left (allTo maxV (tasksGood F b)) _ lock-test) (i .from) (i .to)) (j .from) (j .to)
 
   seat-test : (m : ℕ) → InM m → seatGood b m ≡ true
   seat-test m k = all-at maxM m (seatGood b) (both-right (allTo maxV (tasksGood F b)) _ lock-test) (k .from) (k .to)
@@ -130,7 +129,7 @@ module _ (F : Facts) (b : Board) (g : good F b ≡ true) where
 
   good-holding : Holding F (holderOf b) (waitOf b)
   good-holding = record {
-    seat-in = λ m k. leb-true (holderOf b m) (maxV * maxN) (seat-test m k);
+    seat-in = λ m k. leb-true (holderOf b m) (maxV * mostN) (seat-test m k);
     held-listed = λ v n m i j k e. both-left (F .lists v n m) _ (hold-test v n m i j k e);
     held-alone = λ v n m k i j p q e f. sym (held-highest v n k i j q f) ∙ held-highest v n m i j p e;
     holder-idle = λ v n m i j k e.
@@ -202,10 +201,10 @@ module _ (F : Facts) (b : Board) (f : Fair F) (s : Sound F b) (k : Marked F b) w
       both (waitGood F b v n) _ (wait-pass v n i j) (all-of maxM (holdGood F b v n) (λ m x y. hold-pass v n i j m (record { from = x; to = y })))
 
   tasks-pass : (v : ℕ) → InV v → tasksGood F b v ≡ true
-  tasks-pass v i = all-of maxN (taskGood F b v) (λ n x y. task-pass v n i (record { from = x; to = y }))
+  tasks-pass v i = all-of mostN (taskGood F b v) (λ n x y. task-pass v n i (record { from = x; to = y }))
 
   seat-pass : (m : ℕ) → InM m → seatGood b m ≡ true
-  seat-pass m i = le-leb (holderOf b m) (maxV * maxN) (s .holding .seat-in m i)
+  seat-pass m i = le-leb (holderOf b m) (maxV * mostN) (s .holding .seat-in m i)
 
   pub sound-good : good F b ≡ true
   unfolding good

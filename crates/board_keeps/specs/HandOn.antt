@@ -1,10 +1,8 @@
 -- A freed global mutex goes to the waiter with the highest VCPU, then the highest n; it is free only if nobody waited.
-use Prim.Native.Nat.{ℕ, _<_}
+use Prim.Native.Nat.{ℕ}
 use mathlib.Core.Path.{_≡_, refl, ap, subst, _∙_}
 use mathlib.Core.Bool.{true}
-use mathlib.Core.Logic.{_⊎_, inl, inr, ⊎-elim}
 use native.Mathlib.Omega.{arith}
-use native.Mathlib.Nat.{eq-or-lt-of-le}
 use Rattle.plan.specs.declared.Fault.{Fault}
 use Rattle.plan.specs.declared.Fault.the-variants.{Clear, Bad}
 use Rattle.board_rules.specs.Facts.{Facts}
@@ -18,34 +16,18 @@ use Rattle.board_keeps.specs.Fair.{Fair, InV, InN}
 use Rattle.board_keeps.specs.Shaped.{Shaped, holder-shaped}
 use Rattle.board_keeps.specs.Change.{holder-new, wait-new}
 use Rattle.board_keeps.specs.Faults.{FreeClear, free-clear}
-use Rattle.board_keeps.specs.Nexts.{GlobalNext, none-waits, top-waiter, global-next}
-
--- task (x, j) is lower than (w, k): of a lower VCPU, or of the same and with a lower n
-abbrev pub Lower : ℕ → ℕ → ℕ → ℕ → Type 0
-Lower x j w k = (x < w) ⊎ ((x ≡ w) × (j < k))
-
--- (w, k) waits for m, and every other waiter for m is lower
-pub record HighestWaiter (b : Board) (m w k : ℕ) : Type 0 where
-  pub v-in : InV w
-  pub n-in : InN k
-  pub waited : waitOf b w k ≡ m
-  pub others-lower : (x j : ℕ) → InV x → InN j → waitOf b x j ≡ m → ((x ≡ w) × (j ≡ k) → ⊥) → Lower x j w k
+use Rattle.board_keeps.specs.Nexts.{HighestWaiter, GlobalNext, none-waits, top-waiter, global-next}
 
 read-next : {b : Board} {m : ℕ} {x : Next} → GlobalNext b m x → (w k : ℕ) → x ≡ To w k → HighestWaiter b m w k
 read-next (none-waits h) w k e = absurd (let z : _≡_ {A = ℕ} 0 1 = cc in omega arith)
-read-next {b} {m} (top-waiter w₁ k₁ i j q h) w k e =
+read-next {b} {m} (top-waiter w₁ k₁ h) w k e =
     let ew : w₁ ≡ w = cc in
     let ek : k₁ ≡ k = cc in
-    subst (λ a. HighestWaiter b m w a) ek (subst (λ a. HighestWaiter b m a k₁) ew (record {
-      v-in = i;
-      n-in = j;
-      waited = q;
-      others-lower = λ x y a c z ne. ⊎-elim (λ l. inl l) (λ l. inr (l .0, ⊎-elim (λ d. absurd (ne (l .0, d))) (λ d. d) (eq-or-lt-of-le (l .1)))) (h x y a c z);
-    }))
+    subst (λ a. HighestWaiter b m w a) ek (subst (λ a. HighestWaiter b m a k₁) ew h)
 
 read-none : {b : Board} {m : ℕ} {x : Next} → GlobalNext b m x → x ≡ Nobody → (v n : ℕ) → InV v → InN n → waitOf b v n ≡ m → ⊥
 read-none (none-waits h) e = h
-read-none (top-waiter w k i j q h) e = absurd (let z : _≡_ {A = ℕ} 0 1 = cc in omega arith)
+read-none (top-waiter w k h) e = absurd (let z : _≡_ {A = ℕ} 0 1 = cc in omega arith)
 
 -- `free` of a global mutex, where it is not refused
 record FreedTo (F : Facts) (b : Board) (v n m : ℕ) (x : Next) : Type 0 where

@@ -9,7 +9,7 @@ use native.Mathlib.Decide.{decLe}
 use borrow.Author.Tests.{eqb-false}
 use lib.ListN.{getD, set}
 use Rattle.laws.specs.Choice.{if_then_else_}
-use Rattle.laws.specs.BoolLaws.{neither-right}
+use Rattle.laws.specs.BoolLaws.{neither-right, clash, bool-cases, same-or-not, either-of}
 use Rattle.plan.specs.declared.Fault.{Fault}
 use Rattle.plan.specs.declared.Fault.the-variants.{Clear, Bad}
 use Rattle.board_rules.specs.Facts.{Facts}
@@ -20,7 +20,6 @@ use Rattle.board_rules.specs.declared.Next.{Next}
 use Rattle.board_rules.specs.Board.{seat, leftOf, overOf, isStopped, holderOf, waitOf, holdsGlobal, mustStop, settled, withLeft, withStopped, withHolder, withWait, handedTo, grantedLocal, mayHave, asked, freed, freedGlobal, freedLocal, used, topped, shown, answered, askFault, freeFault, useFault, topFault, showFault, step, good}
 use Rattle.board_keeps.specs.Fair.{Fair, InV, InN, InM, task-v, sheet-v, sheet-n, sheet-m}
 use Rattle.board_keeps.specs.Shaped.{Shaped, holder-shaped}
-use Rattle.board_keeps.specs.Cases.{clash, bool-cases, same-or-not, either-of}
 use Rattle.board_keeps.specs.Locks.{Barred, Holding}
 use Rattle.board_keeps.specs.Good.{Budgeted, Sound, Marked, barred, good-sound, sound-good}
 use Rattle.board_keeps.specs.Change.{seat-one, seat-some, left-new, over-new, stopped-new, left-else, over-else, stopped-else, holder-new, holder-else, wait-new, wait-else}
@@ -142,7 +141,10 @@ module _ {F : Facts} {b : Board} (f : Fair F) (s : Shaped b) (g : Sound F b) whe
         holding = release-holding (g .holding) (holderOf (withHolder b m 0)) m k (holder-new s m 0 k) same;
         waiting = global-waiting f (g .holding) (g .waiting) (holderOf (withHolder b m 0)) (waitOf b) m e same (λ x j i l nz. refl) (λ x j i l q z. h x j i l q);
       }
-  free-global m k e (top-waiter w n i j q h) =
+  free-global m k e (top-waiter w n h) =
+      let i = h .v-in in
+      let j = h .n-in in
+      let q = h .waited in
       let b₁ = withHolder b m (seat w n) in
       let W′ = waitOf (withWait b₁ w n 0) in
       let new = holder-new s m (seat w n) k in

@@ -4,12 +4,12 @@ use mathlib.Core.Path.{_≡_, ap, _∙_}
 use mathlib.Core.Bool.{true, false}
 use mathlib.Core.Logic.{⊎-elim}
 use native.Mathlib.Omega.{arith}
-use Rattle.plan.specs.Limits.{maxV, maxN}
+use Rattle.laws.specs.BoolLaws.{clash, is-false, same-or-not}
+use Rattle.plan.specs.Limits.{maxV, mostN}
 use Rattle.board_rules.specs.Facts.{Facts}
 use Rattle.board_rules.specs.declared.Board.{Board}
 use Rattle.board_rules.specs.Board.{seat, leftOf, overOf, isStopped, holderOf, waitOf, good}
 use Rattle.board_keeps.specs.Fair.{Fair, InV, InN, InM}
-use Rattle.board_keeps.specs.Cases.{clash, is-false, same-or-not}
 use Rattle.board_keeps.specs.Good.{good-sound}
 
 -- every seat is a task's
@@ -20,10 +20,10 @@ pub record SeatOf (h : ℕ) : Type 0 where
   pub n-in : InN n
   pub is : h ≡ seat v n
 
-pub seat-of : (h : ℕ) → (h ≡ 0 → ⊥) → h ≤ maxV * maxN → SeatOf h
+pub seat-of : (h : ℕ) → (h ≡ 0 → ⊥) → h ≤ maxV * mostN → SeatOf h
 seat-of h nz l = record {
-  v = (h - 1) / maxN + 1;
-  n = (h - 1) % maxN + 1;
+  v = (h - 1) / mostN + 1;
+  n = (h - 1) % mostN + 1;
   v-in = record { from = omega arith; to = omega arith };
   n-in = record { from = omega arith; to = omega arith };
   is = omega arith;

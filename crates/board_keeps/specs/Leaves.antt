@@ -3,6 +3,7 @@ use Prim.Native.Nat.{ℕ}
 use mathlib.Core.Path.{_≡_, refl}
 use mathlib.Core.Logic.{⊎-elim}
 use native.Mathlib.Omega.{arith}
+use Rattle.laws.specs.BoolLaws.{bool-cases}
 use Rattle.plan.specs.declared.Refusal.{Refusal}
 use Rattle.plan.specs.declared.Fault.{Fault}
 use Rattle.plan.specs.declared.Fault.the-variants.{Clear, Bad}
@@ -14,7 +15,6 @@ use Rattle.board_rules.specs.declared.BoardAnswer.{BoardAnswer}
 use Rattle.board_rules.specs.declared.BoardAnswer.the-variants.{Refused}
 use Rattle.board_rules.specs.declared.Outcome.{Outcome}
 use Rattle.board_rules.specs.Board.{step, answered, mayHave, asked, freed, freedGlobal, freedLocal, used, topped, shown, askFault, freeFault, useFault, topFault, showFault}
-use Rattle.board_keeps.specs.Cases.{bool-cases}
 
 -- an outcome that is refused has the board b
 abbrev pub Leaves : Board → Outcome → Type 0

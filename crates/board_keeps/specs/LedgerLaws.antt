@@ -9,6 +9,7 @@ use native.Mathlib.Nat.{le-trans}
 use borrow.Author.Tests.{eq-eqb, ne-eqb}
 use lib.Dec.{eqb}
 use Rattle.laws.specs.Choice.{if_then_else_}
+use Rattle.laws.specs.BoolLaws.{bool-cases, same-or-not}
 use Rattle.plan.specs.declared.OverrunChoice.{OverrunChoice}
 use Rattle.plan.specs.declared.OverrunChoice.the-variants.{WithOverrun, WithoutOverrun}
 use Rattle.plan.specs.declared.Fault.{Fault}
@@ -20,10 +21,9 @@ use Rattle.board_rules.specs.declared.Event.the-variants.{Ask, Free, Use, Top, 
 use Rattle.board_rules.specs.declared.Next.{Next}
 use Rattle.board_rules.specs.declared.Next.the-variants.{Nobody, To}
 use Rattle.board_rules.specs.Board.{leftOf, overOf, isStopped, holdsGlobal, reserve, supply, settled, withLeft, withHolder, handedTo, grantedLocal, nextGlobal, nextLocal, fresh, mayHave, asked, freed, freedGlobal, freedLocal, used, topped, shown, answered, askFault, freeFault, useFault, topFault, showFault, step}
-use Rattle.board_rules.specs.Events.{answers, boardAfter}
+use Rattle.board_rules.specs.Events.{answers, boardAfter, answersBy, boardBy}
 use Rattle.board_keeps.specs.Fair.{Fair, InV}
 use Rattle.board_keeps.specs.Shaped.{Shaped, fresh-shaped, step-shaped}
-use Rattle.board_keeps.specs.Cases.{bool-cases, same-or-not}
 use Rattle.board_keeps.specs.Change.{left-new, over-new, left-else, over-else}
 use Rattle.board_keeps.specs.Faults.{use-clear, top-clear}
 use Rattle.board_keeps.specs.Runs.{fresh-left, fresh-over}
@@ -109,7 +109,7 @@ module _ {F : Facts} {b : Board} (f : Fair F) (s : Shaped b) (v t : ℕ) (i : In
 -- at every board of a run: the ticks, and what is left
 after-balance : {F : Facts} {b : Board} (f : Fair F) → Shaped b → (v t : ℕ) → InV v → Balanced F b v t → (es : List Event) →
     Balanced F (boardAfter F b es) v (ledger v t es (answers F b es))
-unfolding boardAfter answers ledger
+unfolding boardBy answersBy ledger
 after-balance f s v t i h [] = h
 after-balance {F} {b} f s v t i h (e ∷ es) =
     after-balance f (step-shaped F e s) v (entered v t e (step F b e .answer)) i (step-balance f s v t i h e) es

@@ -1,6 +1,5 @@
 pub mod Fair
 pub mod Shaped
-pub mod Cases
 pub mod Locks
 pub mod Good
 pub mod Change

@@ -4,6 +4,7 @@ use mathlib.Core.Path.{_≡_, refl, sym, ap, _∙_}
 use mathlib.Core.Bool.{true}
 use mathlib.Core.Logic.{_↔_, ⊎-elim}
 use native.Mathlib.Omega.{arith}
+use Rattle.laws.specs.BoolLaws.{clash, bool-cases, same-or-not}
 use Rattle.plan.specs.declared.Fault.{Fault}
 use Rattle.plan.specs.declared.Fault.the-variants.{Clear, Bad}
 use Rattle.board_rules.specs.Facts.{Facts}
@@ -13,7 +14,6 @@ use Rattle.board_rules.specs.declared.Next.{Next}
 use Rattle.board_rules.specs.Board.{seat, isStopped, holderOf, waitOf, settled, withHolder, withWait, grantedLocal, mayHave, asked, freed, freedLocal, answered, askFault, freeFault, step, good}
 use Rattle.board_keeps.specs.Fair.{Fair, InV, InN, InM, task-v, sheet-v, sheet-n, sheet-m}
 use Rattle.board_keeps.specs.Shaped.{Shaped, holder-shaped}
-use Rattle.board_keeps.specs.Cases.{clash, bool-cases, same-or-not}
 use Rattle.board_keeps.specs.Good.{good-sound}
 use Rattle.board_keeps.specs.Change.{seat-one, stopped-else, holder-else, wait-new, wait-else}
 use Rattle.board_keeps.specs.Nexts.{LocalNext, no-waiter, top-fails, top-passes, local-next}

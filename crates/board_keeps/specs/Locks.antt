@@ -2,7 +2,7 @@
 use Prim.Native.Nat.{ℕ, _*_, _≤_}
 use mathlib.Core.Path.{_≡_}
 use mathlib.Core.Bool.{true, false}
-use Rattle.plan.specs.Limits.{maxV, maxN}
+use Rattle.plan.specs.Limits.{maxV, mostN}
 use Rattle.board_rules.specs.Facts.{Facts}
 use Rattle.board_rules.specs.Board.{seat}
 use Rattle.board_keeps.specs.Fair.{InV, InN, InM}
@@ -18,7 +18,7 @@ pub record Barred (F : Facts) (H : ℕ → ℕ) (v n : ℕ) : Type 0 where
 
 -- a task holds one mutex, one it lists, and waits for none meanwhile; it waits for one that it lists
 pub record Holding (F : Facts) (H : ℕ → ℕ) (W : ℕ → ℕ → ℕ) : Type 0 where
-  pub seat-in : (m : ℕ) → InM m → H m ≤ maxV * maxN
+  pub seat-in : (m : ℕ) → InM m → H m ≤ maxV * mostN
   pub held-listed : (v n m : ℕ) → InV v → InN n → InM m → H m ≡ seat v n → F .lists v n m ≡ true
   pub held-alone : (v n m k : ℕ) → InV v → InN n → InM m → InM k → H m ≡ seat v n → H k ≡ seat v n → k ≡ m
   pub holder-idle : (v n m : ℕ) → InV v → InN n → InM m → H m ≡ seat v n → W v n ≡ 0

@@ -4,10 +4,10 @@ use mathlib.Core.Path.{_≡_, sym, ap, subst, _∙_}
 use mathlib.Core.Bool.{true, false}
 use mathlib.Core.Logic.{⊎-elim}
 use native.Mathlib.Omega.{arith}
+use Rattle.laws.specs.BoolLaws.{clash, same-or-not}
 use Rattle.board_rules.specs.Facts.{Facts}
 use Rattle.board_rules.specs.Board.{seat}
 use Rattle.board_keeps.specs.Fair.{Fair, InV, InN, InM, sheet-m}
-use Rattle.board_keeps.specs.Cases.{clash, same-or-not}
 use Rattle.board_keeps.specs.Locks.{Barred, Holding, Waiting}
 use Rattle.board_keeps.specs.Change.{seat-one, seat-some, seat-to}
 

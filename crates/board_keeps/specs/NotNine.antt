@@ -6,6 +6,7 @@ use mathlib.Core.List.{List}
 use mathlib.Core.Logic.{⊎-elim}
 use native.Mathlib.Omega.{arith}
 use lib.Dec.{leb}
+use Rattle.laws.specs.BoolLaws.{bool-cases}
 use Rattle.plan.specs.Limits.{maxTicks}
 use Rattle.plan.specs.declared.Refusal.{Refusal}
 use Rattle.plan.specs.declared.Refusal.the-variants.{Range, Foreign, Unknown, Unlisted, Asleep, Busy, NotHolder, Supply}
@@ -23,7 +24,6 @@ use Rattle.board_rules.specs.declared.Outcome.{Outcome}
 use Rattle.board_rules.specs.Board.{fresh, isAsleep, isBusy, holds, supply, mayHave, asked, freed, freedGlobal, freedLocal, used, topped, shown, answered, askFault, freeFault, useFault, topFault, showFault, step, stepOn}
 use Rattle.board_rules.specs.Events.{boardAfter}
 use Rattle.board_keeps.specs.Fair.{Fair}
-use Rattle.board_keeps.specs.Cases.{bool-cases}
 use Rattle.board_keeps.specs.Runs.{run-step-on}
 
 -- an answer, and a fault, that is not 9

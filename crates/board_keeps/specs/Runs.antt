@@ -6,15 +6,15 @@ use mathlib.Core.List.{List, [], _∷_}
 use mathlib.Core.Logic.{inl}
 use native.Mathlib.Omega.{arith}
 use Rattle.laws.specs.RangeLaws.{list-at}
-use Rattle.plan.specs.Limits.{maxV, maxM, maxN}
+use Rattle.laws.specs.BoolLaws.{clash, is-false}
+use Rattle.plan.specs.Limits.{maxV, maxM, mostN}
 use Rattle.board_rules.specs.Facts.{Facts}
 use Rattle.board_rules.specs.declared.Board.{Board}
 use Rattle.board_rules.specs.declared.Event.{Event}
 use Rattle.board_rules.specs.Board.{seat, leftOf, overOf, isStopped, holderOf, waitOf, mustStop, fresh, step, good, stepOn}
-use Rattle.board_rules.specs.Events.{boardAfter}
+use Rattle.board_rules.specs.Events.{boardAfter, boardBy}
 use Rattle.board_keeps.specs.Fair.{Fair, InV, InN, InM}
 use Rattle.board_keeps.specs.Shaped.{Shaped, fresh-shaped, step-shaped}
-use Rattle.board_keeps.specs.Cases.{clash, is-false}
 use Rattle.board_keeps.specs.Good.{Budgeted, Sound, Marked, sound-good}
 use Rattle.board_keeps.specs.Change.{seat-some}
 use Rattle.board_keeps.specs.Settle.{due}
@@ -41,7 +41,7 @@ module _ (F : Facts) where
 
   pub fresh-wait : (v n : ℕ) → InV v → InN n → waitOf (fresh F) v n ≡ 0
   unfolding fresh
-  fresh-wait v n i j = list-at (maxV * maxN) (seat v n - 1) (λ k. 0) 0 (omega arith)
+  fresh-wait v n i j = list-at (maxV * mostN) (seat v n - 1) (λ k. 0) 0 (omega arith)
 
 fresh-budgeted : (F : Facts) (v : ℕ) → InV v → Budgeted F v (leftOf (fresh F) v) (overOf (fresh F) v) (isStopped (fresh F) v)
 fresh-budgeted F v i = record {
@@ -86,7 +86,7 @@ fresh-good {F} f = sound-good F (fresh F) f (fresh-sound F) (fresh-marked f)
 -- RUNS
 
 pub after-good : {F : Facts} {b : Board} → Fair F → Shaped b → good F b ≡ true → (es : List Event) → good F (boardAfter F b es) ≡ true
-unfolding boardAfter
+unfolding boardBy
 after-good f s g [] = g
 after-good {F} f s g (e ∷ es) = after-good f (step-shaped F e s) (step-keeps f s g e) es
 

@@ -9,15 +9,14 @@ use lib.Dec.{eqb}
 use lib.ListN.{getD, set, length, length-set}
 use lib.Seq.{getD-set-same, getD-set-other, ext-getD}
 use Rattle.laws.specs.Range.{anyTo, listTo}
-use Rattle.laws.specs.RangeLaws.{any-hit, list-length, list-at}
-use Rattle.laws.specs.BoolLaws.{both-left, both-right, both}
-use Rattle.plan.specs.Limits.{maxV, maxM, maxN}
+use Rattle.laws.specs.RangeLaws.{any-hit, list-length, list-at, any-at}
+use Rattle.laws.specs.BoolLaws.{both-left, both-right, both, clash, bool-cases, is-false, same-or-not}
+use Rattle.plan.specs.Limits.{maxV, maxM, mostN}
 use Rattle.board_rules.specs.Facts.{Facts}
 use Rattle.board_rules.specs.declared.Board.{Board}
 use Rattle.board_rules.specs.Board.{seat, leftOf, isStopped, holderOf, holds, holdsGlobal, underP, mustStop, withStopped, settled}
 use Rattle.board_keeps.specs.Fair.{InV, InN, InM}
 use Rattle.board_keeps.specs.Shaped.{Shaped}
-use Rattle.board_keeps.specs.Cases.{clash, bool-cases, is-false, same-or-not, any-found}
 
 -- WHO HOLDS A GLOBAL MUTEX
 
@@ -33,13 +32,13 @@ pub record GlobalHold (F : Facts) (H : ℕ → ℕ) (v : ℕ) : Type 0 where
 pub global-hold : (F : Facts) (b : Board) (v : ℕ) → holdsGlobal F b v ≡ true → GlobalHold F (holderOf b) v
 unfolding holdsGlobal
 global-hold F b v e =
-    let r = any-found maxM (λ m. F .global m && anyTo maxN (λ n. holds b v n m)) e in
-    let q = any-found maxN (λ n. holds b v n (r .at)) (both-right (F .global (r .at)) _ (r .is)) in
+    let r = any-at maxM (λ m. F .global m && anyTo mostN (λ n. holds b v n m)) e in
+    let q = any-at mostN (λ n. holds b v n (r .at)) (both-right (F .global (r .at)) _ (r .is)) in
     record {
       m = r .at;
       n = q .at;
-      m-in = record { from = r .from; to = r .to };
-      n-in = record { from = q .from; to = q .to };
+      m-in = r .within;
+      n-in = q .within;
       is-global = both-left (F .global (r .at)) _ (r .is);
       held = eqb-true (holderOf b (r .at)) (seat v (q .at)) (q .is);
     }
@@ -47,9 +46,9 @@ global-hold F b v e =
 pub hold-global : (F : Facts) (b : Board) (v : ℕ) → GlobalHold F (holderOf b) v → holdsGlobal F b v ≡ true
 unfolding holdsGlobal
 hold-global F b v r =
-    any-hit maxM (r .m) (λ m. F .global m && anyTo maxN (λ n. holds b v n m)) (r .m-in .from) (r .m-in .to)
+    any-hit maxM (r .m) (λ m. F .global m && anyTo mostN (λ n. holds b v n m)) (r .m-in .from) (r .m-in .to)
     (both (F .global (r .m)) _ (r .is-global)
-    (any-hit maxN (r .n) (λ n. holds b v n (r .m)) (r .n-in .from) (r .n-in .to) (eq-eqb (holderOf b (r .m)) (seat v (r .n)) (r .held))))
+    (any-hit mostN (r .n) (λ n. holds b v n (r .m)) (r .n-in .from) (r .n-in .to) (eq-eqb (holderOf b (r .m)) (seat v (r .n)) (r .held))))
 
 -- WHEN A MARK IS DUE
 

@@ -5,6 +5,7 @@ use mathlib.Core.Bool.{true, false}
 use native.Mathlib.Omega.{arith}
 use borrow.Author.Tests.{eqb-true}
 use lib.ListN.{getD}
+use Rattle.laws.specs.BoolLaws.{clash}
 use Rattle.board_rules.specs.Facts.{Facts}
 use Rattle.board_rules.specs.declared.Board.{Board}
 use Rattle.board_rules.specs.declared.Next.{Next}
@@ -12,7 +13,6 @@ use Rattle.board_rules.specs.declared.Next.the-variants.{To}
 use Rattle.board_rules.specs.Board.{seat, leftOf, isStopped, holderOf, waitOf, withHolder, withWait, settled, good, mayHave, grantedLocal, nextLocal}
 use Rattle.board_keeps.specs.Fair.{InV, InN, InM}
 use Rattle.board_keeps.specs.Shaped.{Shaped, holder-shaped, wait-shaped, granted-shaped}
-use Rattle.board_keeps.specs.Cases.{clash}
 use Rattle.board_keeps.specs.Good.{good-marked}
 use Rattle.board_keeps.specs.Change.{seat-some, holder-off, holder-else}
 use Rattle.board_keeps.specs.Nexts.{LocalNext, no-waiter, top-fails, top-passes, local-next}

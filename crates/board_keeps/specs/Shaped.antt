@@ -6,7 +6,7 @@ use mathlib.Core.List.{List}
 use lib.ListN.{length, length-set}
 use Rattle.laws.specs.Choice.{if_then_else_}
 use Rattle.laws.specs.RangeLaws.{list-length}
-use Rattle.plan.specs.Limits.{maxV, maxM, maxN}
+use Rattle.plan.specs.Limits.{maxV, maxM, mostN}
 use Rattle.plan.specs.declared.Fault.{Fault}
 use Rattle.plan.specs.declared.Fault.the-variants.{Clear, Bad}
 use Rattle.board_rules.specs.Facts.{Facts}
@@ -23,7 +23,7 @@ pub record Shaped (b : Board) : Type 0 where
   pub over-long : length (b .over) ≡ maxV
   pub stopped-long : length (b .stopped) ≡ maxV
   pub holder-long : length (b .holder) ≡ maxM
-  pub waits-long : length (b .waits) ≡ maxV * maxN
+  pub waits-long : length (b .waits) ≡ maxV * mostN
 
 pub fresh-shaped : (F : Facts) → Shaped (fresh F)
 unfolding fresh
@@ -32,7 +32,7 @@ fresh-shaped F = record {
   over-long = list-length maxV (F .overrun);
   stopped-long = list-length maxV (λ v. false);
   holder-long = list-length maxM (λ m. 0);
-  waits-long = list-length (maxV * maxN) (λ s. 0);
+  waits-long = list-length (maxV * mostN) (λ s. 0);
 }
 
 pub left-shaped : {b : Board} (v l o : ℕ) → Shaped b → Shaped (withLeft b v l o)

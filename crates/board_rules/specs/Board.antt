@@ -6,7 +6,7 @@ use lib.Dec.{eqb, ltb, leb}
 use lib.ListN.{getD, set}
 use Rattle.laws.specs.Choice.{if_then_else_}
 use Rattle.laws.specs.Range.{anyTo, allTo, highest, listTo}
-use Rattle.plan.specs.Limits.{maxV, maxM, maxN, maxTicks, taskRaise, vcpuRaise}
+use Rattle.plan.specs.Limits.{maxV, maxM, mostN, maxTicks, taskRaise, vcpuRaise}
 use Rattle.plan.specs.declared.Refusal.{Refusal}
 use Rattle.plan.specs.declared.Refusal.the-variants.{Range, Foreign, Unknown, Unlisted, Asleep, Busy, NotHolder, Supply}
 use Rattle.plan.specs.declared.Fault.{Fault}
@@ -66,7 +66,7 @@ fresh F = record {
   over = listTo maxV (F .overrun);
   stopped = listTo maxV (λ v. false);
   holder = listTo maxM (λ m. 0);
-  waits = listTo (maxV * maxN) (λ s. 0);
+  waits = listTo (maxV * mostN) (λ s. 0);
 }
 
 -- WHO HOLDS AND WAITS
@@ -77,7 +77,7 @@ holds b v n m = eqb (holderOf b m) (seat v n)
 
 -- "the VCPU's tasks hold a global mutex"
 unfoldable pub holdsGlobal : Facts → Board → ℕ → Bool
-holdsGlobal F b v = anyTo maxM (λ m. F .global m && anyTo maxN (λ n. holds b v n m))
+holdsGlobal F b v = anyTo maxM (λ m. F .global m && anyTo mostN (λ n. holds b v n m))
 
 -- task (v, n) waits for a local mutex of v
 unfoldable pub localWaiter : Facts → Board → ℕ → ℕ → Bool
@@ -146,10 +146,10 @@ nextOf v n = if eqb n 0 then Nobody else To v n
 
 -- "A G mutex goes to the waiter with the highest VCPU, then the highest n"
 unfoldable pub waiterV : Board → ℕ → ℕ
-waiterV b m = highest maxV (λ v. anyTo maxN (λ n. eqb (waitOf b v n) m))
+waiterV b m = highest maxV (λ v. anyTo mostN (λ n. eqb (waitOf b v n) m))
 
 unfoldable pub waiterN : Board → ℕ → ℕ → ℕ
-waiterN b m v = highest maxN (λ n. eqb (waitOf b v n) m)
+waiterN b m v = highest mostN (λ n. eqb (waitOf b v n) m)
 
 unfoldable pub nextGlobal : Board → ℕ → Next
 nextGlobal b m = if eqb (waiterV b m) 0 then Nobody else nextOf (waiterV b m) (waiterN b m (waiterV b m))
@@ -159,7 +159,7 @@ freedGlobal F b m = complete F (Freed (nextGlobal b m)) (handedTo b m (nextGloba
 
 -- "After an L mutex, the highest local waiter of v is granted its mutex if it now passes the test"
 unfoldable pub localN : Facts → Board → ℕ → ℕ
-localN F b v = highest maxN (localWaiter F b v)
+localN F b v = highest mostN (localWaiter F b v)
 
 unfoldable pub nextLocal : Facts → Board → ℕ → Next
 nextLocal F b v = if passes F b v (localN F b v) then nextOf v (localN F b v) else Nobody
@@ -215,7 +215,7 @@ unfoldable pub heldLocal : Facts → Board → ℕ → ℕ → ℕ
 heldLocal F b v n = highest maxM (λ m. F .localTo v m && holds b v n m)
 
 unfoldable pub raisedBy : Facts → Board → ℕ → ℕ → ℕ
-raisedBy F b v m = highest maxN (λ j. localWaiter F b v j && leb j (F .ceiling m))
+raisedBy F b v m = highest mostN (λ j. localWaiter F b v j && leb j (F .ceiling m))
 
 unfoldable pub taskPriority : Facts → Board → ℕ → ℕ → ℕ
 taskPriority F b v n =
@@ -266,13 +266,13 @@ waitGood F b v n =
 
 -- the holder of a mutex is a task's seat, or none
 abbrev pub seatGood : Board → ℕ → Bool
-seatGood b m = leb (holderOf b m) (maxV * maxN)
+seatGood b m = leb (holderOf b m) (maxV * mostN)
 
 -- the board breaks none of the conditions. A task or mutex that the plan lacks is listed by no sheet, so it has no holder and no wait
 unfoldable pub good : Facts → Board → Bool
 good F b =
     allTo maxV (λ v. budgetsGood F b v && markGood F b v)
-    && (allTo maxV (λ v. allTo maxN (λ n. waitGood F b v n && allTo maxM (holdGood F b v n))) && allTo maxM (seatGood b))
+    && (allTo maxV (λ v. allTo mostN (λ n. waitGood F b v n && allTo maxM (holdGood F b v n))) && allTo maxM (seatGood b))
 
 -- "Calls on tables or a board test 9 first"
 unfoldable pub stepOn : Facts → Board → Event → Outcome

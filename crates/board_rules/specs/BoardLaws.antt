@@ -7,7 +7,7 @@ use borrow.Author.Tests.{ne-eqb}
 use lib.Dec.{eqb}
 use Rattle.laws.specs.Choice.{if_then_else_}
 use Rattle.laws.specs.Range.{allTo, highest, listTo}
-use Rattle.plan.specs.Limits.{maxV, maxM, maxN}
+use Rattle.plan.specs.Limits.{maxV, maxM, mostN}
 use Rattle.plan.specs.declared.Refusal.the-variants.{Unknown}
 use Rattle.plan.specs.declared.Fault.{Fault}
 use Rattle.plan.specs.Refusals.{unless}
@@ -40,10 +40,10 @@ global-next b m = go (eqb (turns.waiterV (b .waits) m) 0) refl
 -- the local waiter that is next
 pub local-next : (p : Policy) (o : OverrunChoice) (t : List ℕ) (b : Board) (v : ℕ) → nextOf v (localNextAt t (b .holder) (b .waits) v) ≡ nextLocal (factsIn p o t) b v
 unfolding nextLocal localN localWaiter passes factsIn
-local-next p o t b v = go (walks.passes t (b .holder) v (highest maxN (seats.localWaiter t (b .waits) v)))
+local-next p o t b v = go (walks.passes t (b .holder) v (highest mostN (seats.localWaiter t (b .waits) v)))
   where
-    go : (c : Bool) → nextOf v (if c then highest maxN (seats.localWaiter t (b .waits) v) else 0)
-        ≡ (if c then nextOf v (highest maxN (seats.localWaiter t (b .waits) v)) else Nobody)
+    go : (c : Bool) → nextOf v (if c then highest mostN (seats.localWaiter t (b .waits) v) else 0)
+        ≡ (if c then nextOf v (highest mostN (seats.localWaiter t (b .waits) v)) else Nobody)
     go true = refl
     go false = refl
 

@@ -21,14 +21,22 @@ use Rattle.board_rules.specs.Facts.{Facts, factsOf}
 use Rattle.listing.specs.Listing.{line, dash, wRefused, refusedLine}
 use Rattle.board_rules.specs.Board.{Board, Event, Ask, Free, Use, Top, Show, Next, Nobody, To, BoardAnswer, Granted, Waits, Freed, Left, Shows, Refused, Outcome, fresh, step, refused}
 
--- EVENT AFTER EVENT: the answers to a list of events, and the board after them
-unfoldable pub answers : Facts → Board → List Event → List BoardAnswer
-answers F b [] = []
-answers F b (e ∷ es) = step F b e .answer ∷ answers F (step F b e .board) es
+-- EVENT AFTER EVENT: the answers to a list of events, and the board after them, where `by` says what one event does
+module _ (by : Board → Event → Outcome) where
+  unfoldable pub answersBy : Board → List Event → List BoardAnswer
+  answersBy b [] = []
+  answersBy b (e ∷ es) = by b e .answer ∷ answersBy (by b e .board) es
 
-unfoldable pub boardAfter : Facts → Board → List Event → Board
-boardAfter F b [] = b
-boardAfter F b (e ∷ es) = boardAfter F (step F b e .board) es
+  unfoldable pub boardBy : Board → List Event → Board
+  boardBy b [] = b
+  boardBy b (e ∷ es) = boardBy (by b e .board) es
+
+-- by the board's own rules
+abbrev pub answers : Facts → Board → List Event → List BoardAnswer
+answers F = answersBy (step F)
+
+abbrev pub boardAfter : Facts → Board → List Event → Board
+boardAfter F = boardBy (step F)
 
 -- the event that a line's kind and numbers say; none for a line of a plan
 unfoldable pub eventOf : Kind → List ℕ → Option Event
@@ -117,9 +125,13 @@ answerFields (Refused r) = wRefused ∷ decimal (numberOf r) ∷ []
 unfoldable pub answersText : List BoardAnswer → List ℕ
 answersText xs = flat (λ a. line (answerFields a)) xs
 
+-- the lines of the answers to the lines of es, on the board b
+abbrev pub repliesTo : Facts → Board → List ℕ → List ℕ
+repliesTo F b es = answersText (lineAnswers F b (pieces lf es))
+
 abbrev pub eventsText : Reading → List ℕ → List ℕ
 eventsText (Refuses r l) es = refusedLine r l
-eventsText (Accepts p) es = answersText (lineAnswers (factsOf (system p)) (fresh (factsOf (system p))) (pieces lf es))
+eventsText (Accepts p) es = repliesTo (factsOf (system p)) (fresh (factsOf (system p))) es
 
 -- "Either input above 65,536 bytes, and after that a bad plan, ends it as in `verdict`, before any event is answered"
 unfoldable pub boardText : List ℕ → List ℕ → List ℕ

@@ -5,21 +5,21 @@ use mathlib.Core.Bool.{Bool, _&&_, not}
 use lib.Dec.{eqb, ltb}
 use lib.ListN.{getD}
 use Rattle.laws.specs.Choice.{when}
-use Rattle.plan.specs.Limits.{maxV, maxM, maxN}
+use Rattle.plan.specs.Limits.{maxV, maxM, mostN}
 use Rattle.plan.specs.Rules.{within}
 
 abbrev pub isV : ℕ → Bool
 isV v = within v 1 maxV
 
 abbrev pub isN : ℕ → Bool
-isN n = within n 1 maxN
+isN n = within n 1 mostN
 
 abbrev pub isM : ℕ → Bool
 isM m = within m 1 maxM
 
 -- the seat of task (v, n), 1 to 128
 abbrev pub seat : ℕ → ℕ → ℕ
-seat v n = (v - 1) * maxN + n
+seat v n = (v - 1) * mostN + n
 
 -- THE VIEW: one list of numbers, so that an event scans no table
 
@@ -37,10 +37,10 @@ abbrev pub atTask : ℕ
 atTask = maxV + maxV + maxM + maxM
 
 abbrev pub atLists : ℕ
-atLists = maxV + maxV + maxM + maxM + maxV * maxN
+atLists = maxV + maxV + maxM + maxM + maxV * mostN
 
 abbrev pub viewLength : ℕ
-viewLength = maxV + maxV + maxM + maxM + maxV * maxN + maxV * maxN * maxM
+viewLength = maxV + maxV + maxM + maxM + maxV * mostN + maxV * mostN * maxM
 
 -- the owner of a mutex: 0 where the plan lacks it, v where it is local to v, 17 where it is global
 abbrev pub globalOwner : ℕ

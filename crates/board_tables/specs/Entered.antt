@@ -1,18 +1,21 @@
--- The board over lent tables: 9 for the tables, then 9 for the board, then the event's own refusals.
+-- The board over lent tables: 9 for the tables (`ifGiven`), then 9 for the board (`stepOn`), then the event's own refusals.
 use Prim.Native.Nat.{_*_}
-use mathlib.Core.Bool.{true, false}
+use mathlib.Core.Bool.{false}
+use mathlib.Core.List.{List}
 use Rattle.laws.specs.Range.{listTo}
-use Rattle.plan.specs.Limits.{maxV, maxM, maxN}
+use Rattle.plan.specs.Limits.{maxV, maxM, mostN}
 use Rattle.plan.specs.declared.Refusal.the-variants.{Foreign}
 use Rattle.plan_tables.specs.declared.PlanRecord.{PlanRecord}
 use Rattle.plan_tables.specs.Layout.{Tables}
-use Rattle.plan_tables.specs.Given.{planIn, isGiven}
+use Rattle.plan_tables.specs.Given.{planIn, ifGiven}
 use Rattle.figures.specs.System.{system}
 use Rattle.board_rules.specs.Facts.{Facts, factsOf}
 use Rattle.board_rules.specs.declared.Board.{Board}
 use Rattle.board_rules.specs.declared.Event.{Event}
+use Rattle.board_rules.specs.declared.BoardAnswer.{BoardAnswer}
 use Rattle.board_rules.specs.declared.Outcome.{Outcome}
 use Rattle.board_rules.specs.Board.{fresh, refused, stepOn}
+use Rattle.board_rules.specs.Events.{answersBy, boardBy}
 pub use Rattle.board_tables.specs.declared.FreshAnswer.{FreshAnswer}
 pub use Rattle.board_tables.specs.declared.FreshAnswer.the-variants.{Made, NoBoard}
 pub use Rattle.board_tables.specs.declared.FreshBoard.{FreshBoard}
@@ -28,13 +31,20 @@ noBoard = record {
   over = listTo maxV (λ v. 0);
   stopped = listTo maxV (λ v. false);
   holder = listTo maxM (λ m. 0);
-  waits = listTo (maxV * maxN) (λ s. 0);
+  waits = listTo (maxV * mostN) (λ s. 0);
 }
 
 -- a board at first, for tables that an accepted plan gives
 unfoldable pub freshFor : PlanRecord → Tables → FreshBoard
-freshFor r t = elim (isGiven r t) [ true ↦ record { answer = Made; board = fresh (factsFrom r t) } | false ↦ record { answer = NoBoard Foreign; board = noBoard } ]
+freshFor r t = ifGiven r t (λ p. record { answer = Made; board = fresh (factsOf (system p)) }) (record { answer = NoBoard Foreign; board = noBoard })
 
 -- one event on any board, over any tables
 unfoldable pub stepFor : PlanRecord → Tables → Board → Event → Outcome
-stepFor r t b e = elim (isGiven r t) [ true ↦ stepOn (factsFrom r t) b e | false ↦ refused b Foreign ]
+stepFor r t b e = ifGiven r t (λ p. stepOn (factsOf (system p)) b e) (refused b Foreign)
+
+-- EVENT AFTER EVENT: the answers, and the board after them
+abbrev pub runFor : PlanRecord → Tables → Board → List Event → List BoardAnswer
+runFor r t = answersBy (stepFor r t)
+
+abbrev pub lastFor : PlanRecord → Tables → Board → List Event → Board
+lastFor r t = boardBy (stepFor r t)

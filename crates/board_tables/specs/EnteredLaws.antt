@@ -1,28 +1,25 @@
 -- The board over lent tables: from a fresh board no event is answered 9, 9 is answered exactly where a test fails, and a refusal leaves the board as it was.
 use Prim.Native.Nat.{ℕ}
 use mathlib.Core.Path.{_≡_, refl, _∙_}
-use mathlib.Core.Bool.{true, false}
+use mathlib.Core.Bool.{true, false, true≢false}
 use mathlib.Core.List.{List, [], _∷_}
 use mathlib.Core.Logic.{_⊎_, inl, inr, ⊎-elim, _↔_}
 use native.Mathlib.Omega.{arith}
-use lib.ListN.{take}
 use Rattle.laws.specs.Sums.{Each}
+use Rattle.laws.specs.BoolLaws.{clash, bool-cases}
 use Rattle.plan.specs.declared.Refusal.{Refusal}
 use Rattle.plan.specs.declared.Refusal.the-variants.{Foreign}
 use Rattle.plan_tables.specs.declared.PlanRecord.{PlanRecord}
 use Rattle.plan_tables.specs.Layout.{Tables}
-use Rattle.plan_tables.specs.Given.{planIn, isGiven}
+use Rattle.plan_tables.specs.Given.{planIn, isGiven, ifGiven}
 use Rattle.plan_tables.specs.GivenLaws.{given-plan}
-use Rattle.figures.specs.Tabled.{systemIn}
 use Rattle.board_rules.specs.Facts.{Facts}
-use Rattle.board_rules.specs.View.{viewLength, factsIn}
 use Rattle.board_rules.specs.declared.Board.{Board}
 use Rattle.board_rules.specs.declared.Event.{Event}
-use Rattle.board_rules.specs.declared.BoardAnswer.{BoardAnswer}
 use Rattle.board_rules.specs.declared.BoardAnswer.the-variants.{Refused}
 use Rattle.board_rules.specs.Board.{fresh, refused, good, step, stepOn}
-use Rattle.board_rules.specs.Events.{answers}
-use Rattle.board_keeps.specs.Cases.{never, clash, bool-cases}
+use Rattle.board_rules.specs.Events.{answersBy, answers}
+use Rattle.board_rules.specs.EventLaws.{SameRun}
 use Rattle.board_keeps.specs.Fair.{Fair}
 use Rattle.board_keeps.specs.FairLaws.{fair}
 use Rattle.board_keeps.specs.Shaped.{Shaped}
@@ -30,10 +27,8 @@ use Rattle.board_keeps.specs.Leaves.{Leaves, step-leaves}
 use Rattle.board_keeps.specs.Keeps.{step-keeps}
 use Rattle.board_keeps.specs.Runs as runs
 use Rattle.board_keeps.specs.NotNine.{step-not-nine, NotNine}
-use Rattle.board_keeps.specs.Tested.{answersOn, fresh-answers-on}
-use Rattle.board_viewcells.specs.ViewOf.{viewOf}
-use Rattle.board_views.specs.TableLaws.{given-facts}
-use Rattle.board_tables.specs.Entered.{Made, NoBoard, factsFrom, noBoard, freshFor, stepFor}
+use Rattle.board_keeps.specs.Tested.{fresh-run}
+use Rattle.board_tables.specs.Entered.{Made, NoBoard, factsFrom, noBoard, freshFor, stepFor, runFor}
 
 -- a board that fails its test for 9
 pub tested-other : (F : Facts) (b : Board) (e : Event) → good F b ≡ false → stepOn F b e ≡ refused b Foreign
@@ -48,46 +43,36 @@ step-on-leaves F b e = ⊎-elim (λ h. rw h (step-leaves F b e)) (λ h. rw h (λ
 step-on-nine : (F : Facts) (b : Board) (e : Event) → (stepOn F b e .answer ≡ Refused Foreign) ↔ (good F b ≡ false)
 unfolding stepOn
 step-on-nine F b e = ⊎-elim
-    (λ h. rw h ((λ q. absurd (step-not-nine F b e q)), (λ q. absurd (never q))))
+    (λ h. rw h ((λ q. absurd (step-not-nine F b e q)), (λ q. absurd (true≢false q))))
     (λ h. rw h ((λ q. refl), (λ q. refl)))
     (bool-cases (good F b))
 
 answers-not-nine : (F : Facts) (b : Board) (es : List Event) → Each NotNine (answers F b es)
-unfolding answers
+unfolding answersBy
 answers-not-nine F b [] = tt
 answers-not-nine F b (e ∷ es) = (step-not-nine F b e, answers-not-nine F (step F b e .board) es)
 
 module _ (r : PlanRecord) (t : Tables) where
-  -- the answers to a list of events, one after another
-  unfoldable pub runFor : Board → List Event → List BoardAnswer
-  runFor b [] = []
-  runFor b (e ∷ es) = stepFor r t b e .answer ∷ runFor (stepFor r t b e .board) es
-
   -- TABLES THAT NO ACCEPTED PLAN GIVES
   pub fresh-other : isGiven r t ≡ false → freshFor r t ≡ record { answer = NoBoard Foreign; board = noBoard }
   unfolding freshFor
-  fresh-other g = rw (g, freshFor)
+  fresh-other g = rw (g, freshFor, ifGiven)
 
   pub step-other : isGiven r t ≡ false → (b : Board) (e : Event) → stepFor r t b e ≡ refused b Foreign
   unfolding stepFor
-  step-other g b e = rw (g, stepFor)
+  step-other g b e = rw (g, stepFor, ifGiven)
 
   -- TABLES THAT AN ACCEPTED PLAN GIVES
   pub fresh-given : isGiven r t ≡ true → freshFor r t ≡ record { answer = Made; board = fresh (factsFrom r t) }
   unfolding freshFor
-  fresh-given g = rw (g, freshFor)
+  fresh-given g = rw (g, freshFor, ifGiven)
 
   pub step-given : isGiven r t ≡ true → (b : Board) (e : Event) → stepFor r t b e ≡ stepOn (factsFrom r t) b e
   unfolding stepFor
-  step-given g b e = rw (g, stepFor)
+  step-given g b e = rw (g, stepFor, ifGiven)
 
   pub fair-from : isGiven r t ≡ true → Fair (factsFrom r t)
   fair-from g = fair (planIn r t) (given-plan r t g .0)
-
-  -- the facts in the view that is written are the plan's
-  pub filled-from : isGiven r t ≡ true → (view : List ℕ) → take viewLength view ≡ viewOf (systemIn r (t .vcpus) (t .mutexes) (t .tasks)) →
-      factsIn (r .policy) (r .overrun) view ≡ factsFrom r t
-  filled-from g view e = let p = given-plan r t g in given-facts view (p .0) (p .1) e
 
   -- MADE EXACTLY where an accepted plan gives the tables
   pub fresh-made-exactly : (freshFor r t .answer ≡ Made) ↔ (isGiven r t ≡ true)
@@ -107,17 +92,17 @@ module _ (r : PlanRecord) (t : Tables) where
   pub step-good : {b : Board} → isGiven r t ≡ true → Shaped b → good (factsFrom r t) b ≡ true → (e : Event) → good (factsFrom r t) (stepFor r t b e .board) ≡ true
   step-good {b} g s h e = rw (step-given g b e, runs.step-on (factsFrom r t) b h e) (step-keeps (fair-from g) s h e)
 
-  run-on : isGiven r t ≡ true → (b : Board) (es : List Event) → runFor b es ≡ answersOn (factsFrom r t) b es
-  unfolding runFor answersOn
-  run-on g b [] = refl
-  run-on g b (e ∷ es) = let ih = run-on g (stepOn (factsFrom r t) b e .board) es in rw (step-given g b e, ih)
+  -- event after event from the board that is made: the answers and the last board are those of the board's own rules
+  pub run-made : freshFor r t .answer ≡ Made → (es : List Event) → SameRun (stepFor r t) (step (factsFrom r t)) (freshFor r t .board) es
+  run-made e es =
+      let h = fresh-of e in
+      rw (h .1) (fresh-run (fair-from (h .0)) (stepFor r t) (λ b k x. step-given (h .0) b x ∙ runs.step-on (factsFrom r t) b k x) es)
 
-  -- event after event from the board that is made: the answers are those of the board's own rules
-  pub run-answers : freshFor r t .answer ≡ Made → (es : List Event) → runFor (freshFor r t .board) es ≡ answers (factsFrom r t) (freshFor r t .board) es
-  run-answers e es = let h = fresh-of e in run-on (h .0) (freshFor r t .board) es ∙ rw (h .1) (fresh-answers-on (fair-from (h .0)) es)
+  pub run-answers : freshFor r t .answer ≡ Made → (es : List Event) → runFor r t (freshFor r t .board) es ≡ answers (factsFrom r t) (freshFor r t .board) es
+  run-answers e es = run-made e es .0
 
   -- so that none is 9
-  pub never-nine : freshFor r t .answer ≡ Made → (es : List Event) → Each NotNine (runFor (freshFor r t .board) es)
+  pub never-nine : freshFor r t .answer ≡ Made → (es : List Event) → Each NotNine (runFor r t (freshFor r t .board) es)
   never-nine e es = rw (run-answers e es) (answers-not-nine (factsFrom r t) (freshFor r t .board) es)
 
   -- 9 EXACTLY where no accepted plan gives the tables, or the board breaks a condition

@@ -12,6 +12,7 @@ ghost use mathlib.Core.Path.{_≡_};
 ghost use mathlib.Core.Bool.{true};
 ghost use lib.ListN.{length};
 ghost use Rattle.plan_tables.specs.Given.{isGiven};
+ghost use Rattle.plan_tables.specs.Layout.{lent};
 ghost use Rattle.board_rules.specs.View.{factsIn};
 ghost use Rattle.board_rules.specs.Board as board;
 ghost use Rattle.board_rules.specs.declared.Event as Event;
@@ -45,16 +46,16 @@ fn no_board() -> Board
 
 // The view that is written says the facts of the plan in the tables.
 fn fill_facts(r: PlanRecord, vt: &[u64], mt: &[u64], ot: &[u64], ts: &[u64], view: &mut [u64])
-    requires { ⌜ (isGiven r (record { vcpus = now vt; mutexes = now mt; opens = now ot; tasks = now ts }) ≡ true) × (4320 ≤ length (now view)) ⌝ }
-    ensures { λ out. ⌜ factsIn (r .policy) (r .overrun) (now (view .exit)) ≡ factsFrom r (record { vcpus = now (vt .entry); mutexes = now (mt .entry); opens = now (ot .entry); tasks = now (ts .entry) }) ⌝ }
+    requires { ⌜ (isGiven r (lent (now vt) (now mt) (now ot) (now ts)) ≡ true) × (4320 ≤ length (now view)) ⌝ }
+    ensures { λ out. ⌜ factsIn (r .policy) (r .overrun) (now (view .exit)) ≡ factsFrom r (lent (now (vt .entry)) (now (mt .entry)) (now (ot .entry)) (now (ts .entry))) ⌝ }
 {
     board_views::fill_view(r, vt, mt, ts, view)
 }
 
 // The board at first, of tables that an accepted plan gives.
 fn first_board(r: PlanRecord, vt: &[u64], mt: &[u64], ot: &[u64], ts: &[u64]) -> Board
-    requires { ⌜ isGiven r (record { vcpus = now vt; mutexes = now mt; opens = now ot; tasks = now ts }) ≡ true ⌝ }
-    ensures { λ b. ⌜ b ≡ board.fresh (factsFrom r (record { vcpus = now (vt .entry); mutexes = now (mt .entry); opens = now (ot .entry); tasks = now (ts .entry) })) ⌝ }
+    requires { ⌜ isGiven r (lent (now vt) (now mt) (now ot) (now ts)) ≡ true ⌝ }
+    ensures { λ b. ⌜ b ≡ board.fresh (factsFrom r (lent (now (vt .entry)) (now (mt .entry)) (now (ot .entry)) (now (ts .entry)))) ⌝ }
 {
     let mut view = [0u64; 4320];
     fill_facts(r, vt, mt, ot, ts, &mut view);
@@ -85,7 +86,7 @@ fn not_made(b: Board, k: Refusal) -> FreshBoard
 
 // The board at first: 9 where no accepted plan gives the tables.
 pub fn fresh(r: PlanRecord, vt: &[u64], mt: &[u64], ot: &[u64], ts: &[u64]) -> FreshBoard
-    ensures { λ a. ⌜ a ≡ freshFor r (record { vcpus = now (vt .entry); mutexes = now (mt .entry); opens = now (ot .entry); tasks = now (ts .entry) }) ⌝ }
+    ensures { λ a. ⌜ a ≡ freshFor r (lent (now (vt .entry)) (now (mt .entry)) (now (ot .entry)) (now (ts .entry))) ⌝ }
 {
     if given_test::is_given(r, vt, mt, ot, ts) {
         return made(first_board(r, vt, mt, ot, ts));
@@ -113,8 +114,8 @@ fn step_given(
     ts: &[u64],
     e: Event,
 ) -> Outcome
-    requires { ⌜ isGiven r (record { vcpus = now vt; mutexes = now mt; opens = now ot; tasks = now ts }) ≡ true ⌝ }
-    ensures { λ a. ⌜ a ≡ board.stepOn (factsFrom r (record { vcpus = now (vt .entry); mutexes = now (mt .entry); opens = now (ot .entry); tasks = now (ts .entry) })) b e ⌝ }
+    requires { ⌜ isGiven r (lent (now vt) (now mt) (now ot) (now ts)) ≡ true ⌝ }
+    ensures { λ a. ⌜ a ≡ board.stepOn (factsFrom r (lent (now (vt .entry)) (now (mt .entry)) (now (ot .entry)) (now (ts .entry)))) b e ⌝ }
 {
     let mut view = [0u64; 4320];
     fill_facts(r, vt, mt, ot, ts, &mut view);
@@ -133,7 +134,7 @@ pub fn step(
     ts: &[u64],
     e: Event,
 ) -> Outcome
-    ensures { λ a. ⌜ a ≡ stepFor r (record { vcpus = now (vt .entry); mutexes = now (mt .entry); opens = now (ot .entry); tasks = now (ts .entry) }) b e ⌝ }
+    ensures { λ a. ⌜ a ≡ stepFor r (lent (now (vt .entry)) (now (mt .entry)) (now (ot .entry)) (now (ts .entry))) b e ⌝ }
 {
     if given_test::is_given(r, vt, mt, ot, ts) {
         return step_given(b, r, vt, mt, ot, ts, e);
@@ -153,7 +154,7 @@ pub fn ask(
     n: u64,
     m: u64,
 ) -> Outcome
-    ensures { λ a. ⌜ a ≡ stepFor r (record { vcpus = now (vt .entry); mutexes = now (mt .entry); opens = now (ot .entry); tasks = now (ts .entry) }) b (Event.Ask v n m) ⌝ }
+    ensures { λ a. ⌜ a ≡ stepFor r (lent (now (vt .entry)) (now (mt .entry)) (now (ot .entry)) (now (ts .entry))) b (Event.Ask v n m) ⌝ }
 {
     step(b, r, vt, mt, ot, ts, Event::Ask { v, n, m })
 }
@@ -170,7 +171,7 @@ pub fn free(
     n: u64,
     m: u64,
 ) -> Outcome
-    ensures { λ a. ⌜ a ≡ stepFor r (record { vcpus = now (vt .entry); mutexes = now (mt .entry); opens = now (ot .entry); tasks = now (ts .entry) }) b (Event.Free v n m) ⌝ }
+    ensures { λ a. ⌜ a ≡ stepFor r (lent (now (vt .entry)) (now (mt .entry)) (now (ot .entry)) (now (ts .entry))) b (Event.Free v n m) ⌝ }
 {
     step(b, r, vt, mt, ot, ts, Event::Free { v, n, m })
 }
@@ -186,7 +187,7 @@ pub fn use_ticks(
     v: u64,
     t: u64,
 ) -> Outcome
-    ensures { λ a. ⌜ a ≡ stepFor r (record { vcpus = now (vt .entry); mutexes = now (mt .entry); opens = now (ot .entry); tasks = now (ts .entry) }) b (Event.Use v t) ⌝ }
+    ensures { λ a. ⌜ a ≡ stepFor r (lent (now (vt .entry)) (now (mt .entry)) (now (ot .entry)) (now (ts .entry))) b (Event.Use v t) ⌝ }
 {
     step(b, r, vt, mt, ot, ts, Event::Use { v, t })
 }
@@ -201,7 +202,7 @@ pub fn top(
     ts: &[u64],
     v: u64,
 ) -> Outcome
-    ensures { λ a. ⌜ a ≡ stepFor r (record { vcpus = now (vt .entry); mutexes = now (mt .entry); opens = now (ot .entry); tasks = now (ts .entry) }) b (Event.Top v) ⌝ }
+    ensures { λ a. ⌜ a ≡ stepFor r (lent (now (vt .entry)) (now (mt .entry)) (now (ot .entry)) (now (ts .entry))) b (Event.Top v) ⌝ }
 {
     step(b, r, vt, mt, ot, ts, Event::Top { v })
 }
@@ -217,7 +218,7 @@ pub fn show(
     v: u64,
     n: u64,
 ) -> BoardAnswer
-    ensures { λ a. ⌜ a ≡ stepFor r (record { vcpus = now (vt .entry); mutexes = now (mt .entry); opens = now (ot .entry); tasks = now (ts .entry) }) b (Event.Show v n) .answer ⌝ }
+    ensures { λ a. ⌜ a ≡ stepFor r (lent (now (vt .entry)) (now (mt .entry)) (now (ot .entry)) (now (ts .entry))) b (Event.Show v n) .answer ⌝ }
 {
     let o = step(b, r, vt, mt, ot, ts, Event::Show { v, n });
     o.answer

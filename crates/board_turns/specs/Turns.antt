@@ -6,7 +6,7 @@ use lib.Dec.{eqb}
 use lib.ListN.{getD}
 use Rattle.laws.specs.Choice.{if_then_else_}
 use Rattle.laws.specs.Range.{anyTo, highest}
-use Rattle.plan.specs.Limits.{maxV, maxN, taskRaise, vcpuRaise}
+use Rattle.plan.specs.Limits.{maxV, mostN, taskRaise, vcpuRaise}
 use Rattle.board_seats.specs.Seats.{isGlobal, ceilingOf, waitAt, localWaiter}
 use Rattle.board_walks.specs.Walks.{holdsGlobal, passes, heldGlobal, heldLocal, localUnder}
 
@@ -16,15 +16,15 @@ mayHaveAt t hs v n m = if isGlobal t m then eqb (getD hs (m - 1) 0) 0 else passe
 
 -- "A G mutex goes to the waiter with the highest VCPU, then the highest n": that VCPU, and its task, 0 for none
 abbrev pub waiterV : List ℕ → ℕ → ℕ
-waiterV ws m = highest maxV (λ v. anyTo maxN (λ n. eqb (waitAt ws v n) m))
+waiterV ws m = highest maxV (λ v. anyTo mostN (λ n. eqb (waitAt ws v n) m))
 
 abbrev pub waiterN : List ℕ → ℕ → ℕ → ℕ
-waiterN ws m v = if eqb v 0 then 0 else highest maxN (λ n. eqb (waitAt ws v n) m)
+waiterN ws m v = if eqb v 0 then 0 else highest mostN (λ n. eqb (waitAt ws v n) m)
 
 -- "the highest local waiter of v is granted its mutex if it now passes the test": that waiter, 0 for none
 abbrev pub localNextAt : List ℕ → List ℕ → List ℕ → ℕ → ℕ
 localNextAt t hs ws v =
-    let n = highest maxN (λ k. localWaiter t ws v k) in
+    let n = highest mostN (λ k. localWaiter t ws v k) in
     if passes t hs v n then n else 0
 
 -- "Task priority: 8 + n holding a G mutex; holding an L mutex, the greatest of n and of the VCPU's local waiters not above that mutex's ceiling; else n"

@@ -8,9 +8,10 @@ use borrow.Author.Count.{below-more}
 use lib.Dec.{eqb, ltb}
 use lib.ListN.{length, getD, set, take, length-set}
 use lib.Seq.{getD-set-same, getD-set-other, getD-take}
+use Rattle.board_keeps.specs.Fair.{InV, InN}
 use Rattle.laws.specs.BoolLaws.{both-left, both-right, both}
 use Rattle.laws.specs.Choice.{when}
-use Rattle.plan.specs.Limits.{maxV, maxM, maxN}
+use Rattle.plan.specs.Limits.{maxV, maxM, mostN}
 use Rattle.plan.specs.declared.Policy.{Policy}
 use Rattle.plan.specs.declared.OverrunChoice.{OverrunChoice}
 use Rattle.plan.specs.Plan.{Plan}
@@ -36,23 +37,23 @@ module _ (s : System) where
   at-place j k e h = rw e at (sym h)
 
   pub budget-place : (k : ℕ) → k < 16 → vcpuAt s (k + 1) .budget ≡ getD (viewOf s) k 0
-  budget-place k l = at-place (k + 1 - 1) k (omega arith) (budget-cell s (k + 1) (name-in (k + 1) maxV (omega arith) (omega arith)))
+  budget-place k l = at-place (k + 1 - 1) k (omega arith) (budget-cell s (k + 1) (name-in (k + 1) maxV (omega arith)))
 
   pub overrun-place : (k : ℕ) → 16 ≤ k → k < 32 → overrunOf s (k - 15) ≡ getD (viewOf s) k 0
-  overrun-place k h l = at-place (16 + (k - 15 - 1)) k (omega arith) (overrun-cell s (k - 15) (name-in (k - 15) maxV (omega arith) (omega arith)))
+  overrun-place k h l = at-place (16 + (k - 15 - 1)) k (omega arith) (overrun-cell s (k - 15) (name-in (k - 15) maxV (omega arith)))
 
   pub owner-place : (k : ℕ) → 32 ≤ k → k < 64 → ownerOf s (k - 31) ≡ getD (viewOf s) k 0
-  owner-place k h l = at-place (32 + (k - 31 - 1)) k (omega arith) (owner-cell s (k - 31) (name-in (k - 31) maxM (omega arith) (omega arith)))
+  owner-place k h l = at-place (32 + (k - 31 - 1)) k (omega arith) (owner-cell s (k - 31) (name-in (k - 31) maxM (omega arith)))
 
   pub ceiling-place : (k : ℕ) → 64 ≤ k → k < 96 → ceiling s (k - 63) ≡ getD (viewOf s) k 0
-  ceiling-place k h l = at-place (64 + (k - 63 - 1)) k (omega arith) (ceiling-cell s (k - 63) (name-in (k - 63) maxM (omega arith) (omega arith)))
+  ceiling-place k h l = at-place (64 + (k - 63 - 1)) k (omega arith) (ceiling-cell s (k - 63) (name-in (k - 63) maxM (omega arith)))
 
   pub task-place : (k : ℕ) → 96 ≤ k → k < 224 → bit (hasTask s ((k - 96) / 8 + 1) ((k - 96) % 8 + 1)) ≡ getD (viewOf s) k 0
   task-place k h l =
       let v = (k - 96) / 8 + 1 in
       let n = (k - 96) % 8 + 1 in
       at-place (96 + (seat v n - 1)) k (omega arith)
-      (task-cell s v n (both (isV v) (isN n) (name-in v maxV (omega arith) (omega arith)) (name-in n maxN (omega arith) (omega arith))))
+      (task-cell s v n (both (isV v) (isN n) (name-in v maxV (omega arith)) (name-in n mostN (omega arith))))
 
   -- number j of the sheets
   pub sheet-place : (j : ℕ) → j < 4096 → bit (lists s (j / 256 + 1) (j / 32 % 8 + 1) (j % 32 + 1)) ≡ getD (viewOf s) (224 + j) 0
@@ -63,7 +64,7 @@ module _ (s : System) where
       at-place (224 + ((seat v n - 1) * 32 + (m - 1))) (224 + j) (omega arith)
       (sheet-cell s v n m
       (both (isV v && isN n) (isM m)
-      (both (isV v) (isN n) (name-in v maxV (omega arith) (omega arith)) (name-in n maxN (omega arith) (omega arith))) (name-in m maxM (omega arith) (omega arith))))
+      (both (isV v) (isN n) (name-in v maxV (omega arith)) (name-in n mostN (omega arith))) (name-in m maxM (omega arith))))
 
 -- the first i numbers are those of f
 pub record Written (f : ℕ → ℕ) (n : ℕ) (view : List ℕ) (i k : ℕ) : Type 0 where
@@ -100,10 +101,8 @@ unfolding when
 number-on true h = h refl
 number-on false h = refl
 
-in-seat : (v n : ℕ) → (isV v && isN n) ≡ true → (0 < v) × (v ≤ maxV) × (0 < n) × (n ≤ maxN)
-in-seat v n e =
-    let a = in-name v maxV (both-left (isV v) _ e) in
-    let b = in-name n maxN (both-right (isV v) _ e) in (a .0, a .1, b .0, b .1)
+in-seat : (v n : ℕ) → (isV v && isN n) ≡ true → InV v × InN n
+in-seat v n e = (in-name v maxV (both-left (isV v) _ e), in-name n mostN (both-right (isV v) _ e))
 
 module _ (p : Policy) (o : OverrunChoice) (t : List ℕ) where
   -- the cell i of the first numbers

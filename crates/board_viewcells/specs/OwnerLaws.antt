@@ -1,16 +1,17 @@
 -- What the owner of a mutex says, in a valid plan.
-use Prim.Native.Nat.{ℕ, _<_, _≤_}
+use Prim.Native.Nat.{ℕ, _<_}
 use mathlib.Core.Path.{_≡_, refl, sym, ap, _∙_}
-use mathlib.Core.Bool.{Bool, true, false, _&&_}
-use mathlib.Core.List.{List, [], _∷_}
+use mathlib.Core.Bool.{Bool, true, false, _&&_, false≢true}
+use mathlib.Core.List.{List}
 use mathlib.Core.Logic.{⊎-elim}
 use native.Mathlib.Omega.{arith}
 use borrow.Author.Tests.{eqb-true, eq-eqb}
 use lib.Dec.{eqb}
-use Rattle.laws.specs.BoolLaws.{both-left, both-right, both, either-left, either-right}
-use Rattle.laws.specs.Sums.{any, Each}
+use Rattle.laws.specs.BoolLaws.{both-left, both-right, both, is-false, bool-cases}
+use Rattle.laws.specs.Sums.{any}
 use Rattle.laws.specs.Range.{highest}
 use Rattle.laws.specs.RangeLaws.{highest-le, highest-passes, highest-is}
+use Rattle.laws.specs.SumLaws.{any-row}
 use Rattle.plan.specs.Limits.{maxV}
 use Rattle.plan.specs.Plan.{Owner, Global, Local, Mutex, Plan}
 use Rattle.plan.specs.Lookup.{isGlobal, isLocalTo, hasMutex, global, localTo}
@@ -20,19 +21,8 @@ use Rattle.figures.specs.System.{System, system}
 use Rattle.board_rules.specs.View.{globalOwner}
 use Rattle.board_rules.specs.Facts.{factsOf}
 use Rattle.board_keeps.specs.Fair.{InV}
-use Rattle.board_keeps.specs.Cases.{never, is-false, either-of, bool-cases}
 use Rattle.board_keeps.specs.FairLaws.{fair}
 use Rattle.board_viewcells.specs.ViewOf.{ownerOf}
-
--- what follows from a row that passes, of which P holds, and by which a test that it passes is passed by some row
-any-row : {A C : Type 0} (f : A → Bool) (P : A → Type 0) (xs : List A) → any f xs ≡ true → Each P xs →
-    ((x : A) → f x ≡ true → P x → ((g : A → Bool) → g x ≡ true → any g xs ≡ true) → C) → C
-unfolding any
-any-row f P [] e h k = absurd (never (sym e))
-any-row f P (x ∷ xs) e h k =
-    let ih = any-row f P xs in
-    ⊎-elim (λ q. k x q (h .0) (λ g t. either-left (g x) (any g xs) t))
-    (λ q. ih q (h .1) (λ y a b c. k y a b (λ g t. either-right (g x) (any g xs) (c g t)))) (either-of (f x) (any f xs) e)
 
 -- a mutex that is global or local is declared
 pub global-has : (ms : List Mutex) (m : ℕ) → global ms m ≡ true → hasMutex ms m ≡ true
@@ -55,12 +45,12 @@ module _ (s : System) (m : ℕ) where
   owner-local e = rw e
 
   -- an owner that is a VCPU's name: the mutex is local to it
-  pub owner-is : (v : ℕ) → 0 < v → v ≤ maxV → ownerOf s m ≡ v → localTo (s .mutexes) v m ≡ true
-  owner-is v g l e =
+  pub owner-is : (v : ℕ) → InV v → ownerOf s m ≡ v → localTo (s .mutexes) v m ≡ true
+  owner-is v i e =
       ⊎-elim (λ q. absurd (omega (arith, owner-global q)))
       (λ q.
       let z : highest maxV (λ w. localTo (s .mutexes) w m) ≡ v = sym (owner-local q) ∙ e in
-      rw z at (highest-passes maxV (λ w. localTo (s .mutexes) w m) (rw z g)))
+      rw z at (highest-passes maxV (λ w. localTo (s .mutexes) w m) (rw z (i .from))))
       (bool-cases (global (s .mutexes) m))
 
   -- an owner that is globalOwner: the mutex is global
@@ -82,11 +72,11 @@ module _ (p : Plan) (h : Valid p) where
   pub local-in : (v m : ℕ) → localTo (p .mutexes) v m ≡ true → InV v
   unfolding localTo
   local-in v m e =
-      any-row (λ r. eqb (r .m) m && isLocalTo v (r .owner)) (MutexValid (p .vcpus)) (p .mutexes) e (h .mutexes-valid)
-      (λ r q k c. go (r .owner) (k .owned) (both-right (eqb (r .m) m) _ q))
+      let r = any-row (λ x. eqb (x .m) m && isLocalTo v (x .owner)) (MutexValid (p .vcpus)) (p .mutexes) e (h .mutexes-valid) in
+      go (r .row .owner) (r .has .owned) (both-right (eqb (r .row .m) m) _ (r .passes))
     where
       go : (o : Owner) → OwnerValid (p .vcpus) o → isLocalTo v o ≡ true → InV v
-      go Global k q = absurd (never (sym q))
+      go Global k q = absurd (false≢true q)
       go (Local w) k q = let z = eqb-true w v q in let i = k .0 in record { from = omega arith; to = omega arith }
 
   -- the owner of a mutex local to v is v
@@ -103,8 +93,8 @@ module _ (p : Plan) (h : Valid p) where
   pub has-owner : (m : ℕ) → hasMutex (p .mutexes) m ≡ true → 0 < ownerOf (system p) m
   unfolding hasMutex global localTo
   has-owner m e =
-      any-row (λ r. eqb (r .m) m) (MutexValid (p .vcpus)) (p .mutexes) e (h .mutexes-valid)
-      (λ r q k c. go r q (r .owner) refl (k .owned) c)
+      let r = any-row (λ x. eqb (x .m) m) (MutexValid (p .vcpus)) (p .mutexes) e (h .mutexes-valid) in
+      go (r .row) (r .passes) (r .row .owner) refl (r .has .owned) (r .shows)
     where
       go : (r : Mutex) → eqb (r .m) m ≡ true → (o : Owner) → r .owner ≡ o → OwnerValid (p .vcpus) o →
           ((g : Mutex → Bool) → g r ≡ true → any g (p .mutexes) ≡ true) → 0 < ownerOf (system p) m

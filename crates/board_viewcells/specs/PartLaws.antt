@@ -8,7 +8,7 @@ use native.Mathlib.Omega.{arith}
 use lib.ListN.{length, getD, length-append, List·getD-append}
 use lib.Seq.{getD-append-add}
 use Rattle.laws.specs.Sums.{flat}
-use Rattle.laws.specs.Range.{listTo, flatTo}
+use Rattle.laws.specs.Range.{listTo, flatTo, OneTo}
 use Rattle.laws.specs.RangeLaws.{list-at}
 
 -- PARTS
@@ -35,9 +35,9 @@ part-at (p ∷ ps) (suc k) i h =
 -- NAMES
 
 -- the cell of name k
-pub name-at : (n k : ℕ) (f : ℕ → ℕ) → 0 < k → k ≤ n → getD (listTo n f) (k - 1) 0 ≡ f k
-name-at n zero f g h = absurd (omega arith)
-name-at n (suc k) f g h = let e : suc k - 1 ≡ k = omega arith in rw e (list-at n k f 0 h)
+pub name-at : (n k : ℕ) (f : ℕ → ℕ) → OneTo n k → getD (listTo n f) (k - 1) 0 ≡ f k
+name-at n zero f h = absurd (omega arith)
+name-at n (suc k) f h = let e : suc k - 1 ≡ k = omega arith in rw e (list-at n k f 0 (h .to))
 
 module _ (c : ℕ) (f : ℕ → List ℕ) (h : (j : ℕ) → length (f j) ≡ c) where
   pub flat-length : (n : ℕ) → length (flatTo n f) ≡ n * c

@@ -1,5 +1,5 @@
 -- The view of a valid plan says its facts.
-use Prim.Native.Nat.{ℕ, _+_, _-_, _*_, _<_, _≤_}
+use Prim.Native.Nat.{ℕ, _+_, _-_, _*_, _<_}
 use mathlib.Core.Path.{_≡_, refl, sym, ap, _∙_}
 use mathlib.Core.Bool.{Bool, true, false, _&&_}
 use mathlib.Core.List.{List, [], _∷_}
@@ -7,12 +7,12 @@ use native.Mathlib.Omega.{arith}
 use borrow.Author.Tests.{eqb-true, ltb-true, leb-true, lt-ltb, le-leb, eq-eqb}
 use lib.Dec.{eqb, ltb, leb}
 use lib.ListN.{length, getD, length-append}
-use Rattle.laws.specs.BoolLaws.{both-left, both-right, both, neither-left, neither-right, both-ways}
+use Rattle.laws.specs.BoolLaws.{both-left, both-right, both, neither-left, neither-right, both-ways, clash, is-true, is-false, missed}
 use Rattle.laws.specs.Choice.{when}
 use Rattle.laws.specs.Sums.{any, greatest, flat}
-use Rattle.laws.specs.Range.{listTo, flatTo}
+use Rattle.laws.specs.Range.{listTo, flatTo, OneTo}
 use Rattle.laws.specs.RangeLaws.{list-length}
-use Rattle.plan.specs.Limits.{maxV, maxM, maxN}
+use Rattle.plan.specs.Limits.{maxV, maxM, mostN}
 use Rattle.plan.specs.Plan.{Task, Plan}
 use Rattle.plan.specs.Rules.{within}
 use Rattle.plan.specs.Lookup as lookup
@@ -24,7 +24,6 @@ use Rattle.board_rules.specs.Facts.{lists, factsOf}
 use Rattle.board_rules.specs.View.{atOverrun, atOwner, atCeiling, atTask, atLists, viewLength, globalOwner, isV, isN, isM, ownerAt, factsIn}
 use Rattle.board_rules.specs.Board.{seat}
 use Rattle.board_keeps.specs.Fair.{Fair}
-use Rattle.board_keeps.specs.Cases.{clash, is-true, is-false, missed}
 use Rattle.board_keeps.specs.FairLaws.{fair}
 use Rattle.board_viewcells.specs.ViewOf.{bit, ownerOf, budgets, overruns, owners, ceilings, tasks, sheets, parts, viewOf}
 use Rattle.board_viewcells.specs.PartLaws.{startOf, partOf, part-at, name-at, flat-length, flat-at}
@@ -33,11 +32,11 @@ use Rattle.board_viewcells.specs.OwnerLaws.{global-has, local-has, owner
 -- TESTS
 
 -- a name passes its range test where it is in range, and only there
-pub name-in : (x hi : ℕ) → 0 < x → x ≤ hi → within x 1 hi ≡ true
-name-in x hi g l = both (leb 1 x) (leb x hi) (le-leb 1 x g) (le-leb x hi l)
+pub name-in : (x hi : ℕ) → OneTo hi x → within x 1 hi ≡ true
+name-in x hi i = both (leb 1 x) (leb x hi) (le-leb 1 x (i .from)) (le-leb x hi (i .to))
 
-pub in-name : (x hi : ℕ) → within x 1 hi ≡ true → (0 < x) × (x ≤ hi)
-in-name x hi e = (leb-true 1 x (both-left (leb 1 x) (leb x hi) e), leb-true x hi (both-right (leb 1 x) (leb x hi) e))
+pub in-name : (x hi : ℕ) → within x 1 hi ≡ true → OneTo hi x
+in-name x hi e = record { from = leb-true 1 x (both-left (leb 1 x) (leb x hi) e); to = leb-true x hi (both-right (leb 1 x) (leb x hi) e) }
 
 -- a test that equals f in range, where f holds only in range
 ranged : (r : Bool) {t f : Bool} → (r ≡ true → t ≡ f) → (f ≡ true → r ≡ true) → (r && t) ≡ f
@@ -62,12 +61,12 @@ record Lengths (s : System) : Type 0 where
   of-overruns : length (overruns s) ≡ maxV
   of-owners : length (owners s) ≡ maxM
   of-ceilings : length (ceilings s) ≡ maxM
-  of-tasks : length (tasks s) ≡ maxV * maxN
-  of-sheets : length (sheets s) ≡ maxV * maxN * maxM
+  of-tasks : length (tasks s) ≡ maxV * mostN
+  of-sheets : length (sheets s) ≡ maxV * mostN * maxM
 
 module _ (s : System) where
-  sheet-length : (v : ℕ) → length (flatTo maxN (λ n. listTo maxM (λ m. bit (lists s v n m)))) ≡ maxN * maxM
-  sheet-length v = flat-length maxM (λ n. listTo maxM (λ m. bit (lists s v n m))) (λ n. list-length maxM (λ m. bit (lists s v n m))) maxN
+  sheet-length : (v : ℕ) → length (flatTo mostN (λ n. listTo maxM (λ m. bit (lists s v n m)))) ≡ mostN * maxM
+  sheet-length v = flat-length maxM (λ n. listTo maxM (λ m. bit (lists s v n m))) (λ n. list-length maxM (λ m. bit (lists s v n m))) mostN
 
   lengths : Lengths s
   unfolding budgets overruns owners ceilings tasks sheets
@@ -76,8 +75,8 @@ module _ (s : System) where
     of-overruns = list-length maxV (λ v. overrunOf s v);
     of-owners = list-length maxM (λ m. ownerOf s m);
     of-ceilings = list-length maxM (λ m. ceiling s m);
-    of-tasks = flat-length maxN (λ v. listTo maxN (λ n. bit (hasTask s v n))) (λ v. list-length maxN (λ n. bit (hasTask s v n))) maxV;
-    of-sheets = flat-length (maxN * maxM) (λ v. flatTo maxN (λ n. listTo maxM (λ m. bit (lists s v n m)))) sheet-length maxV;
+    of-tasks = flat-length mostN (λ v. listTo mostN (λ n. bit (hasTask s v n))) (λ v. list-length mostN (λ n. bit (hasTask s v n))) maxV;
+    of-sheets = flat-length (mostN * maxM) (λ v. flatTo mostN (λ n. listTo maxM (λ m. bit (lists s v n m)))) sheet-length maxV;
   }
 
   pub view-length : length (viewOf s) ≡ viewLength
@@ -94,38 +93,38 @@ module _ (s : System) where
   budget-cell v e =
       let h = in-name v maxV e in
       let a = lengths in
-      cell 0 (v - 1) (v - 1) (omega arith) (omega arith) ∙ name-at maxV v (λ w. vcpuAt s w .budget) (h .0) (h .1)
+      cell 0 (v - 1) (v - 1) (omega arith) (omega arith) ∙ name-at maxV v (λ w. vcpuAt s w .budget) h
 
   pub overrun-cell : (v : ℕ) → isV v ≡ true → getD (viewOf s) (atOverrun + (v - 1)) 0 ≡ overrunOf s v
   unfolding overruns
   overrun-cell v e =
       let h = in-name v maxV e in
       let a = lengths in
-      cell 1 (v - 1) (atOverrun + (v - 1)) (omega arith) (omega arith) ∙ name-at maxV v (λ w. overrunOf s w) (h .0) (h .1)
+      cell 1 (v - 1) (atOverrun + (v - 1)) (omega arith) (omega arith) ∙ name-at maxV v (λ w. overrunOf s w) h
 
   pub owner-cell : (m : ℕ) → isM m ≡ true → ownerAt (viewOf s) m ≡ ownerOf s m
   unfolding owners
   owner-cell m e =
       let h = in-name m maxM e in
       let a = lengths in
-      cell 2 (m - 1) (atOwner + (m - 1)) (omega arith) (omega arith) ∙ name-at maxM m (λ w. ownerOf s w) (h .0) (h .1)
+      cell 2 (m - 1) (atOwner + (m - 1)) (omega arith) (omega arith) ∙ name-at maxM m (λ w. ownerOf s w) h
 
   pub ceiling-cell : (m : ℕ) → isM m ≡ true → getD (viewOf s) (atCeiling + (m - 1)) 0 ≡ ceiling s m
   unfolding ceilings
   ceiling-cell m e =
       let h = in-name m maxM e in
       let a = lengths in
-      cell 3 (m - 1) (atCeiling + (m - 1)) (omega arith) (omega arith) ∙ name-at maxM m (λ w. ceiling s w) (h .0) (h .1)
+      cell 3 (m - 1) (atCeiling + (m - 1)) (omega arith) (omega arith) ∙ name-at maxM m (λ w. ceiling s w) h
 
   pub task-cell : (v n : ℕ) → (isV v && isN n) ≡ true → getD (viewOf s) (atTask + (seat v n - 1)) 0 ≡ bit (hasTask s v n)
   unfolding tasks
   task-cell v n e =
       let h = in-name v maxV (both-left (isV v) _ e) in
-      let g = in-name n maxN (both-right (isV v) _ e) in
+      let g = in-name n mostN (both-right (isV v) _ e) in
       let a = lengths in
-      cell 4 ((v - 1) * maxN + (n - 1)) (atTask + (seat v n - 1)) (omega arith) (omega arith)
-      ∙ flat-at maxN (λ w. listTo maxN (λ k. bit (hasTask s w k))) (λ w. list-length maxN (λ k. bit (hasTask s w k))) maxV v (n - 1) (h .0) (h .1) (omega arith)
-      ∙ name-at maxN n (λ k. bit (hasTask s v k)) (g .0) (g .1)
+      cell 4 ((v - 1) * mostN + (n - 1)) (atTask + (seat v n - 1)) (omega arith) (omega arith)
+      ∙ flat-at mostN (λ w. listTo mostN (λ k. bit (hasTask s w k))) (λ w. list-length mostN (λ k. bit (hasTask s w k))) maxV v (n - 1) (h .from) (h .to) (omega arith)
+      ∙ name-at mostN n (λ k. bit (hasTask s v k)) g
 
   pub sheet-cell : (v n m : ℕ) → ((isV v && isN n) && isM m) ≡ true →
       getD (viewOf s) (atLists + ((seat v n - 1) * maxM + (m - 1))) 0 ≡ bit (lists s v n m)
@@ -133,13 +132,13 @@ module _ (s : System) where
   sheet-cell v n m e =
       let q = both-left (isV v && isN n) _ e in
       let h = in-name v maxV (both-left (isV v) _ q) in
-      let g = in-name n maxN (both-right (isV v) _ q) in
+      let g = in-name n mostN (both-right (isV v) _ q) in
       let k = in-name m maxM (both-right (isV v && isN n) _ e) in
       let a = lengths in
-      cell 5 ((v - 1) * (maxN * maxM) + ((n - 1) * maxM + (m - 1))) (atLists + ((seat v n - 1) * maxM + (m - 1))) (omega arith) (omega arith)
-      ∙ flat-at (maxN * maxM) (λ w. flatTo maxN (λ j. listTo maxM (λ x. bit (lists s w j x)))) sheet-length maxV v ((n - 1) * maxM + (m - 1)) (h .0) (h .1) (omega arith)
-      ∙ flat-at maxM (λ j. listTo maxM (λ x. bit (lists s v j x))) (λ j. list-length maxM (λ x. bit (lists s v j x))) maxN n (m - 1) (g .0) (g .1) (omega arith)
-      ∙ name-at maxM m (λ x. bit (lists s v n x)) (k .0) (k .1)
+      cell 5 ((v - 1) * (mostN * maxM) + ((n - 1) * maxM + (m - 1))) (atLists + ((seat v n - 1) * maxM + (m - 1))) (omega arith) (omega arith)
+      ∙ flat-at (mostN * maxM) (λ w. flatTo mostN (λ j. listTo maxM (λ x. bit (lists s w j x)))) sheet-length maxV v ((n - 1) * maxM + (m - 1)) (h .from) (h .to) (omega arith)
+      ∙ flat-at maxM (λ j. listTo maxM (λ x. bit (lists s v j x))) (λ j. list-length maxM (λ x. bit (lists s v j x))) mostN n (m - 1) (g .from) (g .to) (omega arith)
+      ∙ name-at maxM m (λ x. bit (lists s v n x)) k
 
 -- a mutex that no sheet locks has the ceiling 0
 no-ceiling : (m : ℕ) (ts : List Task) → ((v n : ℕ) → any (λ k. (eqb (k .v) v && eqb (k .n) n) && locksIt m k) ts ≡ false) →
@@ -157,17 +156,15 @@ no-ceiling m (k ∷ ts) h =
 module _ (p : Plan) (h : Valid p) where
   v-in : (v : ℕ) → lookup.hasVcpu (p .vcpus) v ≡ true → isV v ≡ true
   unfolding factsOf
-  v-in v e = let i = fair p h .vcpu-in v e in name-in v maxV (i .from) (i .to)
+  v-in v e = name-in v maxV (fair p h .vcpu-in v e)
 
   m-in : (m : ℕ) → lookup.hasMutex (p .mutexes) m ≡ true → isM m ≡ true
   unfolding factsOf
-  m-in m e = let i = fair p h .mutex-in m e in name-in m maxM (i .from) (i .to)
+  m-in m e = name-in m maxM (fair p h .mutex-in m e)
 
   seat-in : (v n : ℕ) → hasTask (system p) v n ≡ true → (isV v && isN n) ≡ true
   unfolding factsOf
-  seat-in v n e =
-      let i = fair p h .task-in v n e in
-      both (isV v) (isN n) (v-in v (fair p h .task-vcpu v n e)) (name-in n maxN (i .from) (i .to))
+  seat-in v n e = both (isV v) (isN n) (v-in v (fair p h .task-vcpu v n e)) (name-in n mostN (fair p h .task-in v n e))
 
   has-vcpu : (v : ℕ) → (isV v && ltb 0 (getD (viewOf (system p)) (v - 1) 0)) ≡ lookup.hasVcpu (p .vcpus) v
   unfolding factsOf
@@ -224,8 +221,8 @@ module _ (p : Plan) (h : Valid p) where
       (λ e. let i = in-name v maxV (both-left (isV v) _ e) in
       ap (λ x. eqb x v) (owner-cell (system p) m (both-right (isV v) _ e)) ∙
       both-ways (eqb (ownerOf (system p) m) v) (lookup.localTo (p .mutexes) v m)
-      (λ q. owner-is (system p) m v (i .0) (i .1) (eqb-true _ v q)) (λ q. eq-eqb _ v (local-owner p h v m q)))
-      (λ e. let i = local-in p h v m e in both (isV v) (isM m) (name-in v maxV (i .from) (i .to)) (m-in m (local-has (p .mutexes) v m e)))
+      (λ q. owner-is (system p) m v i (eqb-true _ v q)) (λ q. eq-eqb _ v (local-owner p h v m q)))
+      (λ e. both (isV v) (isM m) (name-in v maxV (local-in p h v m e)) (m-in m (local-has (p .mutexes) v m e)))
 
   the-ceiling : (m : ℕ) → when (isM m) (getD (viewOf (system p)) (atCeiling + (m - 1)) 0) ≡ ceiling (system p) m
   unfolding ceiling lists factsOf

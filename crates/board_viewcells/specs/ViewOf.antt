@@ -5,7 +5,7 @@ use mathlib.Core.List.{List, [], _∷_}
 use Rattle.laws.specs.Choice.{if_then_else_, when}
 use Rattle.laws.specs.Sums.{flat}
 use Rattle.laws.specs.Range.{highest, listTo, flatTo}
-use Rattle.plan.specs.Limits.{maxV, maxM, maxN}
+use Rattle.plan.specs.Limits.{maxV, maxM, mostN}
 use Rattle.plan.specs.Lookup.{global, localTo}
 use Rattle.figures.specs.System.{System}
 use Rattle.figures.specs.Figures.{vcpuAt, overrunOf, ceiling}
@@ -35,11 +35,11 @@ ceilings s = listTo maxM (λ m. ceiling s m)
 
 -- for each seat, the plan has the task
 unfoldable pub tasks : System → List ℕ
-tasks s = flatTo maxV (λ v. listTo maxN (λ n. bit (hasTask s v n)))
+tasks s = flatTo maxV (λ v. listTo mostN (λ n. bit (hasTask s v n)))
 
 -- for each seat and m, the task's sheet locks m
 unfoldable pub sheets : System → List ℕ
-sheets s = flatTo maxV (λ v. flatTo maxN (λ n. listTo maxM (λ m. bit (lists s v n m))))
+sheets s = flatTo maxV (λ v. flatTo mostN (λ n. listTo maxM (λ m. bit (lists s v n m))))
 
 abbrev pub parts : System → List (List ℕ)
 parts s = budgets s ∷ overruns s ∷ owners s ∷ ceilings s ∷ tasks s ∷ sheets s ∷ []

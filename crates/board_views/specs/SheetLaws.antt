@@ -12,20 +12,21 @@ use borrow.Author.Tests.{eq-eqb, eqb-true, lt-ltb, le-ltb}
 use lib.Dec.{eqb}
 use lib.ListN.{length, getD, set, take, length-set, length-take}
 use lib.Seq.{getD-set-same, getD-set-other, getD-take, ext-getD}
-use Rattle.laws.specs.BoolLaws.{both, both-left, both-right}
+use Rattle.laws.specs.BoolLaws.{both, both-left, both-right, clash}
 use Rattle.laws.specs.Choice.{if_then_else_, when}
 use Rattle.laws.specs.Sums.{any}
 use Rattle.laws.specs.Rows.{rows}
-use Rattle.plan.specs.Limits.{maxV, maxM, maxN}
-use Rattle.plan.specs.Plan.{Lock, Task}
+use Rattle.plan.specs.Limits.{maxV, maxM, mostN}
+use Rattle.plan.specs.declared.Lock.{Lock}
+use Rattle.plan.specs.Plan.{Task}
 use Rattle.plan_tables.specs.Layout.{taskWidth, cell, lockRow, taskRow}
 use Rattle.figures.specs.System.{System}
 use Rattle.figures.specs.Figures.{locksIt}
 use Rattle.board_rules.specs.Facts.{lists}
 use Rattle.board_rules.specs.View.{atLists, viewLength, isV, isN, isM}
-use Rattle.board_keeps.specs.Cases.{clash}
+use Rattle.board_keeps.specs.Fair.{InV, InN, InM}
 use Rattle.board_viewcells.specs.ViewOf.{bit, viewOf}
-use Rattle.board_views.specs.Sheets.{Names, placeOf, Marked, Blank, blankAt, inTurn, marked, markedBy}
+use Rattle.board_views.specs.Sheets.{placeOf, Marked, Blank, blankAt, inTurn, marked, markedBy}
 use Rattle.board_viewcells.specs.ViewLaws.{name-in, in-name, view-length}
 use Rattle.board_viewcells.specs.FillLaws.{Written, sheet-place}
 
@@ -95,20 +96,17 @@ module _ (v n m j : ℕ) where
       (both (eqb v (j / 256 + 1)) (eqb n (j / 32 % 8 + 1)) (eq-eqb v _ a) (eq-eqb n _ b)) (eq-eqb m _ c)
 
   -- such names are in range
-  hit-in : j < maxV * maxN * maxM → hits v n m j ≡ true → ((isV v && isN n) && isM m) ≡ true
+  hit-in : j < maxV * mostN * maxM → hits v n m j ≡ true → ((isV v && isN n) && isM m) ≡ true
   hit-in l e =
       let h = hit-names e in
       both (isV v && isN n) (isM m)
-      (both (isV v) (isN n) (name-in v maxV (omega arith) (omega arith)) (name-in n maxN (omega arith) (omega arith)))
-      (name-in m maxM (omega arith) (omega arith))
+      (both (isV v) (isN n) (name-in v maxV (omega arith)) (name-in n mostN (omega arith)))
+      (name-in m maxM (omega arith))
 
-pub names : (v n m : ℕ) → ((isV v && isN n) && isM m) ≡ true → Names v n m
+pub names : (v n m : ℕ) → ((isV v && isN n) && isM m) ≡ true → InV v × InN n × InM m
 names v n m e =
     let a = both-left (isV v && isN n) (isM m) e in
-    let x = in-name v maxV (both-left (isV v) (isN n) a) in
-    let y = in-name n maxN (both-right (isV v) (isN n) a) in
-    let z = in-name m maxM (both-right (isV v && isN n) (isM m) e) in
-    record { v-from = x .0; v-to = x .1; n-from = y .0; n-to = y .1; m-from = z .0; m-to = z .1 }
+    (in-name v maxV (both-left (isV v) (isN n) a), in-name n mostN (both-right (isV v) (isN n) a), in-name m maxM (both-right (isV v && isN n) (isM m) e))
 
 -- names in range set their number, which is k; others set none
 pub marked-in : (v n m : ℕ) (w : List ℕ) {k : ℕ} → ((isV v && isN n) && isM m) ≡ true → k ≡ placeOf v n m → set w k 1 ≡ marked v n m w
@@ -121,7 +119,7 @@ marked-out v n m w e = ap (λ t. if t then set w (placeOf v n m) 1 else w) (sym 
 
 module _ {s : System} {q : ℕ → Bool} {w : List ℕ} (v n m : ℕ) (h : Marked s q w) where
   -- number j after (v, n) and m are marked, by whether it is theirs
-  set-at : Names v n m → (j : ℕ) → j < maxV * maxN * maxM → (t : Bool) → hits v n m j ≡ t → getD (set w (placeOf v n m) 1) (atLists + j) 0 ≡ bit (q j || t)
+  set-at : InV v × InN n × InM m → (j : ℕ) → j < maxV * mostN * maxM → (t : Bool) → hits v n m j ≡ t → getD (set w (placeOf v n m) 1) (atLists + j) 0 ≡ bit (q j || t)
   unfolding when
   set-at i j l true e =
       let g = hit-names v n m j e in
@@ -132,7 +130,7 @@ module _ {s : System} {q : ℕ → Bool} {w : List ℕ} (v n m : ℕ) (h : Marke
       ∙ h .at j l
       ∙ ap bit (sym (or-false (q j)))
 
-  same-at : ((isV v && isN n) && isM m) ≡ false → (j : ℕ) → j < maxV * maxN * maxM → (t : Bool) → hits v n m j ≡ t → getD w (atLists + j) 0 ≡ bit (q j || t)
+  same-at : ((isV v && isN n) && isM m) ≡ false → (j : ℕ) → j < maxV * mostN * maxM → (t : Bool) → hits v n m j ≡ t → getD w (atLists + j) 0 ≡ bit (q j || t)
   same-at o j l true e = absurd (clash (hit-in v n m j l e) o)
   same-at o j l false e = h .at j l ∙ ap bit (sym (or-false (q j)))
 

@@ -6,7 +6,7 @@ use mathlib.Core.List.{List, [], _∷_}
 use lib.Dec.{ltb}
 use lib.ListN.{length, getD, set}
 use Rattle.laws.specs.Choice.{if_then_else_, when}
-use Rattle.plan.specs.Limits.{maxV, maxM, maxN}
+use Rattle.plan.specs.Limits.{maxV, maxM, mostN}
 use Rattle.plan.specs.Plan.{Task}
 use Rattle.figures.specs.System.{System}
 use Rattle.board_rules.specs.View.{atLists, viewLength, isV, isN, isM}
@@ -17,7 +17,7 @@ use Rattle.board_viewcells.specs.ViewOf.{bit, viewOf}
 pub record Marked (s : System) (q : ℕ → Bool) (w : List ℕ) : Type 0 where
   pub room : viewLength ≤ length w
   pub front : (j : ℕ) → j < atLists → getD w j 0 ≡ getD (viewOf s) j 0
-  pub at : (j : ℕ) → j < maxV * maxN * maxM → getD w (atLists + j) 0 ≡ bit (q j)
+  pub at : (j : ℕ) → j < maxV * mostN * maxM → getD w (atLists + j) 0 ≡ bit (q j)
 
 -- no number of the sheets is set
 abbrev pub Blank : System → List ℕ → Type 0
@@ -31,15 +31,6 @@ blankAt s k = when (ltb k atLists) (getD (viewOf s) k 0)
 unfoldable pub inTurn : {A B : Type 0} → (A → B → B) → List A → B → B
 inTurn f [] w = w
 inTurn f (x ∷ xs) w = inTurn f xs (f x w)
-
--- names in range
-pub record Names (v n m : ℕ) : Type 0 where
-  pub v-from : 0 < v
-  pub v-to : v ≤ maxV
-  pub n-from : 0 < n
-  pub n-to : n ≤ maxN
-  pub m-from : 0 < m
-  pub m-to : m ≤ maxM
 
 -- the place in the view of m in the sheet of (v, n)
 abbrev pub placeOf : ℕ → ℕ → ℕ → ℕ

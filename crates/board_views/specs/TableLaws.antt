@@ -1,5 +1,6 @@
 -- The tables that a valid plan gives hold its system, so the view written from them says its facts.
 use mathlib.Core.Path.{_≡_, ap, ap₂, _∙_}
+use mathlib.Core.Bool.{true}
 use mathlib.Core.List.{List}
 use Prim.Native.Nat.{ℕ}
 use lib.ListN.{take}
@@ -9,8 +10,8 @@ use Rattle.plan_tables.specs.declared.PlanRecord.{PlanRecord}
 use Rattle.plan_tables.specs.Layout.{Tables, vcpuRow, mutexRow, taskRow, recordOf}
 use Rattle.plan_tables.specs.LayoutLaws.{vcpus-back, mutexes-back, tasks-back}
 use Rattle.plan_tables.specs.FlatLaws.{held-back}
-use Rattle.plan_tables.specs.Given.{Gives}
-use Rattle.plan_tables.specs.GivenLaws.{Kept, gives-kept, valid-few, valid-named}
+use Rattle.plan_tables.specs.Given.{Gives, planIn, isGiven}
+use Rattle.plan_tables.specs.GivenLaws.{Kept, gives-kept, valid-few, valid-named, given-plan}
 use Rattle.figures.specs.System.{system}
 use Rattle.figures.specs.Tabled.{systemIn}
 use Rattle.board_rules.specs.Facts.{factsOf}
@@ -40,3 +41,9 @@ module _ {p : Plan} {r : PlanRecord} {t : Tables} (view : List ℕ) (h : Valid p
   given-facts =
       ap₂ (λ x y. factsIn x y view) (ap (λ (x : PlanRecord). x .policy) (g .recorded)) (ap (λ (x : PlanRecord). x .overrun) (g .recorded))
       ∙ filled-facts p view h (e ∙ ap viewOf (system-given h g))
+
+-- the facts in the view that is written are those of the plan in tables that pass the test for 9
+module _ (r : PlanRecord) (t : Tables) (view : List ℕ) (g : isGiven r t ≡ true)
+    (e : take viewLength view ≡ viewOf (systemIn r (t .vcpus) (t .mutexes) (t .tasks))) where
+  pub view-facts : factsIn (r .policy) (r .overrun) view ≡ factsOf (system (planIn r t))
+  view-facts = let w = given-plan r t g in given-facts view (w .0) (w .1) e

@@ -8,8 +8,9 @@ ghost use Rattle.laws.specs.Rows.{Is};
 ghost use Rattle.plan_tables.specs.Layout.{taskRow};
 ghost use Rattle.figures.specs.Tabled.{Fit, systemIn};
 ghost use Rattle.board_rules.specs.View.{isV, isN, isM};
+ghost use Rattle.board_keeps.specs.Fair.{InV, InN, InM};
 ghost use Rattle.board_viewcells.specs.ViewOf.{viewOf};
-ghost use Rattle.board_views.specs.Sheets.{Names, placeOf, blankAt, Blank, inTurn, marked, markedBy};
+ghost use Rattle.board_views.specs.Sheets.{placeOf, blankAt, Blank, inTurn, marked, markedBy};
 
 // Number k of the view, 0 in the sheets.
 fn blank_cell(r: PlanRecord, vt: &[u64], mt: &[u64], ts: &[u64], k: u64) -> u64
@@ -47,7 +48,7 @@ fn in_sheets(v: u64, n: u64, m: u64) -> bool
 
 // The place in the view that says whether the sheet of task (v, n) locks m.
 fn place_of(v: u64, n: u64, m: u64) -> u64
-    requires { ⌜ Names v n m ⌝ }
+    requires { ⌜ InV v × InN n × InM m ⌝ }
     ensures { λ x. ⌜ Is x (placeOf v n m) 4319 ⌝ }
 {
     224 + (((v - 1) * 8 + n - 1) * 32 + (m - 1))

@@ -14,7 +14,7 @@ use lib.Seq.{ext-getD, getD-set-same, getD-set-other}
 use Rattle.laws.specs.BoolLaws.{both-left, both-right, both}
 use Rattle.laws.specs.Range.{anyTo, allTo, highest, listTo}
 use Rattle.laws.specs.RangeLaws.{any-none, any-more, any-hit, none-of, all-none, all-more, all-miss, highest-zero, highest-same, highest-passes, highest-le, list-length, list-at}
-use Rattle.plan.specs.Limits.{maxV, maxN}
+use Rattle.plan.specs.Limits.{maxV, mostN}
 use Rattle.board_seats.specs.Seats.{seat, waitAt}
 use Rattle.board_walks.specs.Walks.{rowOf, rowsOf, columnOf, rowWith}
 
@@ -89,44 +89,44 @@ any-highest n f = go (highest n f) refl
         any-hit n (highest n f) f (omega arith) (highest-le n f) (highest-passes n f (omega arith)) ∙ sym (lt-ltb 0 (highest n f) (omega arith))
 
 -- the seats of v
-pub of-vcpu : (h v : ℕ) → (ltb ((v - 1) * maxN) h && leb h ((v - 1) * maxN + maxN)) ≡ anyTo maxN (λ n. eqb h (seat v n))
-of-vcpu h v = go (ltb ((v - 1) * maxN) h && leb h ((v - 1) * maxN + maxN)) refl
+pub of-vcpu : (h v : ℕ) → (ltb ((v - 1) * mostN) h && leb h ((v - 1) * mostN + mostN)) ≡ anyTo mostN (λ n. eqb h (seat v n))
+of-vcpu h v = go (ltb ((v - 1) * mostN) h && leb h ((v - 1) * mostN + mostN)) refl
   where
-    go : (t : Bool) → (ltb ((v - 1) * maxN) h && leb h ((v - 1) * maxN + maxN)) ≡ t → t ≡ anyTo maxN (λ n. eqb h (seat v n))
+    go : (t : Bool) → (ltb ((v - 1) * mostN) h && leb h ((v - 1) * mostN + mostN)) ≡ t → t ≡ anyTo mostN (λ n. eqb h (seat v n))
     go true e =
-        let a : (v - 1) * maxN < h = ltb-true ((v - 1) * maxN) h (both-left (ltb ((v - 1) * maxN) h) (leb h ((v - 1) * maxN + maxN)) e) in
-        let b : h ≤ (v - 1) * maxN + maxN = leb-true h ((v - 1) * maxN + maxN) (both-right (ltb ((v - 1) * maxN) h) (leb h ((v - 1) * maxN + maxN)) e) in
-        sym (any-hit maxN (h - (v - 1) * maxN) (λ n. eqb h (seat v n)) (omega arith) (omega arith) (eq-eqb h (seat v (h - (v - 1) * maxN)) (omega arith)))
+        let a : (v - 1) * mostN < h = ltb-true ((v - 1) * mostN) h (both-left (ltb ((v - 1) * mostN) h) (leb h ((v - 1) * mostN + mostN)) e) in
+        let b : h ≤ (v - 1) * mostN + mostN = leb-true h ((v - 1) * mostN + mostN) (both-right (ltb ((v - 1) * mostN) h) (leb h ((v - 1) * mostN + mostN)) e) in
+        sym (any-hit mostN (h - (v - 1) * mostN) (λ n. eqb h (seat v n)) (omega arith) (omega arith) (eq-eqb h (seat v (h - (v - 1) * mostN)) (omega arith)))
     go false e =
-        sym (none-of maxN (λ n. eqb h (seat v n)) (λ k g l. ne-eqb h (seat v k) (λ q.
-        let a : ltb ((v - 1) * maxN) h ≡ true = lt-ltb ((v - 1) * maxN) h (omega arith) in
-        let b : leb h ((v - 1) * maxN + maxN) ≡ true = le-leb h ((v - 1) * maxN + maxN) (omega arith) in
-        let c = both (ltb ((v - 1) * maxN) h) (leb h ((v - 1) * maxN + maxN)) a b in
+        sym (none-of mostN (λ n. eqb h (seat v n)) (λ k g l. ne-eqb h (seat v k) (λ q.
+        let a : ltb ((v - 1) * mostN) h ≡ true = lt-ltb ((v - 1) * mostN) h (omega arith) in
+        let b : leb h ((v - 1) * mostN + mostN) ≡ true = le-leb h ((v - 1) * mostN + mostN) (omega arith) in
+        let c = both (ltb ((v - 1) * mostN) h) (leb h ((v - 1) * mostN + mostN)) a b in
         let z : _≡_ {A = ℕ} 0 1 = cc in omega arith)))
 
 -- no cap on the waiters of a VCPU
-pub under-all : (f : ℕ → Bool) → highest maxN (λ j. f j && leb j maxN) ≡ highest maxN f
-under-all f = highest-same maxN (λ k a b. rw (le-leb k maxN b, and-true (f k)))
+pub under-all : (f : ℕ → Bool) → highest mostN (λ j. f j && leb j mostN) ≡ highest mostN f
+under-all f = highest-same mostN (λ k a b. rw (le-leb k mostN b, and-true (f k)))
 
 -- THE ROWS SAY WHAT THE FLAT FIELD SAYS
 
-row-at : (ws : List ℕ) (v n : ℕ) → 0 < n → n ≤ maxN → getD (rowOf ws v) (n - 1) 0 ≡ waitAt ws v n
+row-at : (ws : List ℕ) (v n : ℕ) → 0 < n → n ≤ mostN → getD (rowOf ws v) (n - 1) 0 ≡ waitAt ws v n
 row-at ws v n a b =
     let e : suc (n - 1) ≡ n = omega arith in
-    list-at maxN (n - 1) (λ k. waitAt ws v k) 0 (omega arith) ∙ ap (λ k. waitAt ws v k) e
+    list-at mostN (n - 1) (λ k. waitAt ws v k) 0 (omega arith) ∙ ap (λ k. waitAt ws v k) e
 
 rows-at : (ws : List ℕ) (v : ℕ) → 0 < v → v ≤ maxV → getD (rowsOf ws) (v - 1) [] ≡ rowOf ws v
 rows-at ws v a b =
     let e : suc (v - 1) ≡ v = omega arith in
     list-at maxV (v - 1) (λ k. rowOf ws k) [] (omega arith) ∙ ap (λ k. rowOf ws k) e
 
-pub column-flat : (ws : List ℕ) (v w : ℕ) → columnOf (rowOf ws v) w ≡ highest maxN (λ n. eqb (waitAt ws v n) w)
-column-flat ws v w = highest-same maxN (λ n a b. ap (λ x. eqb x w) (row-at ws v n a b))
+pub column-flat : (ws : List ℕ) (v w : ℕ) → columnOf (rowOf ws v) w ≡ highest mostN (λ n. eqb (waitAt ws v n) w)
+column-flat ws v w = highest-same mostN (λ n a b. ap (λ x. eqb x w) (row-at ws v n a b))
 
 -- the column of a row of the local
-pub column-rows : (ws : List ℕ) (v w : ℕ) → 0 < v → v ≤ maxV → columnOf (getD (rowsOf ws) (v - 1) []) w ≡ highest maxN (λ n. eqb (waitAt ws v n) w)
+pub column-rows : (ws : List ℕ) (v w : ℕ) → 0 < v → v ≤ maxV → columnOf (getD (rowsOf ws) (v - 1) []) w ≡ highest mostN (λ n. eqb (waitAt ws v n) w)
 column-rows ws v w a b = ap (λ r. columnOf r w) (rows-at ws v a b) ∙ column-flat ws v w
 
-pub rows-flat : (ws : List ℕ) (w : ℕ) → rowWith (rowsOf ws) w ≡ highest maxV (λ v. anyTo maxN (λ n. eqb (waitAt ws v n) w))
+pub rows-flat : (ws : List ℕ) (w : ℕ) → rowWith (rowsOf ws) w ≡ highest maxV (λ v. anyTo mostN (λ n. eqb (waitAt ws v n) w))
 rows-flat ws w =
-    highest-same maxV (λ v a b. ap (ltb 0) (column-rows ws v w a b) ∙ sym (any-highest maxN (λ n. eqb (waitAt ws v n) w)))
+    highest-same maxV (λ v a b. ap (ltb 0) (column-rows ws v w a b) ∙ sym (any-highest mostN (λ n. eqb (waitAt ws v n) w)))

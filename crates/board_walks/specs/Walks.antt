@@ -6,12 +6,12 @@ use lib.Dec.{eqb, ltb, leb}
 use lib.ListN.{getD}
 use Rattle.laws.specs.Choice.{if_then_else_}
 use Rattle.laws.specs.Range.{anyTo, allTo, highest, listTo}
-use Rattle.plan.specs.Limits.{maxV, maxM, maxN}
+use Rattle.plan.specs.Limits.{maxV, maxM, mostN}
 use Rattle.board_seats.specs.Seats.{isGlobal, isLocal, listsIt, ceilingOf, holdsIt, heldByOther, waitAt, localWaiter}
 
 -- a task of v holds m, which is global
 abbrev pub globalBy : List ℕ → List ℕ → ℕ → ℕ → Bool
-globalBy t hs v m = isGlobal t m && anyTo maxN (λ n. holdsIt hs v n m)
+globalBy t hs v m = isGlobal t m && anyTo mostN (λ n. holdsIt hs v n m)
 
 abbrev pub holdsGlobal : List ℕ → List ℕ → ℕ → Bool
 holdsGlobal t hs v = anyTo maxM (λ m. globalBy t hs v m)
@@ -35,18 +35,18 @@ heldLocal t hs v n = highest maxM (λ m. isLocal t v m && holdsIt hs v n m)
 
 -- the highest local waiter of v that is not above the cap
 abbrev pub localUnder : List ℕ → List ℕ → ℕ → ℕ → ℕ
-localUnder t ws v cap = highest maxN (λ j. localWaiter t ws v j && leb j cap)
+localUnder t ws v cap = highest mostN (λ j. localWaiter t ws v j && leb j cap)
 
 -- the marks by rows of VCPUs and columns of tasks
 abbrev pub rowOf : List ℕ → ℕ → List ℕ
-rowOf ws v = listTo maxN (λ n. waitAt ws v n)
+rowOf ws v = listTo mostN (λ n. waitAt ws v n)
 
 abbrev pub rowsOf : List ℕ → List (List ℕ)
 rowsOf ws = listTo maxV (λ v. rowOf ws v)
 
 -- the highest column that has w, 0 for none; and the highest row that has it
 abbrev pub columnOf : List ℕ → ℕ → ℕ
-columnOf row w = highest maxN (λ n. eqb (getD row (n - 1) 0) w)
+columnOf row w = highest mostN (λ n. eqb (getD row (n - 1) 0) w)
 
 abbrev pub rowWith : List (List ℕ) → ℕ → ℕ
 rowWith rows w = highest maxV (λ v. ltb 0 (columnOf (getD rows (v - 1) []) w))
@@ -65,7 +65,7 @@ abbrev pub taskGood : List ℕ → List ℕ → List ℕ → ℕ → ℕ → Boo
 taskGood t hs ws v n = waitGood t hs ws v n && allTo maxM (λ m. holdGood t hs ws v n m)
 
 abbrev pub tasksGood : List ℕ → List ℕ → List ℕ → ℕ → Bool
-tasksGood t hs ws v = allTo maxN (λ n. taskGood t hs ws v n)
+tasksGood t hs ws v = allTo mostN (λ n. taskGood t hs ws v n)
 
 abbrev pub seatGood : List ℕ → ℕ → Bool
-seatGood hs m = leb (getD hs (m - 1) 0) (maxV * maxN)
+seatGood hs m = leb (getD hs (m - 1) 0) (maxV * mostN)

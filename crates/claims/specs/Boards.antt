@@ -2,8 +2,9 @@
 use Prim.Native.Nat.{ℕ, _+_}
 use mathlib.Core.Path.{_≡_, refl, sym, subst, _∙_}
 use mathlib.Core.Bool.{true}
-use mathlib.Core.List.{List, [], _∷_}
+use mathlib.Core.List.{List}
 use mathlib.Core.Logic.{⊎-elim}
+use Rattle.laws.specs.BoolLaws.{bool-cases}
 use Rattle.plan_tables.specs.declared.PlanRecord.{PlanRecord}
 use Rattle.plan_tables.specs.Layout.{Tables}
 use Rattle.plan_tables.specs.Given.{isGiven}
@@ -14,38 +15,26 @@ use Rattle.board_rules.specs.declared.Event.the-variants.{Ask, Free}
 use Rattle.board_rules.specs.declared.Outcome.{Outcome}
 use Rattle.board_rules.specs.Board.{leftOf, overOf, step, good}
 use Rattle.board_rules.specs.Events.{boardAfter}
-use Rattle.board_keeps.specs.Cases.{bool-cases}
 use Rattle.board_keeps.specs.Shaped.{Shaped}
 use Rattle.board_keeps.specs.Ledger.{ledger}
 use Rattle.board_keeps.specs.LedgerLaws.{ledger-balance}
 use Rattle.board_keeps.specs.Locality.{Untouched, untouched, ask-local, free-local, ask-elsewhere, free-elsewhere}
-use Rattle.board_keeps.specs.Tested.{boardOn, fresh-board-on}
 use Rattle.board_keeps.specs.Runs.{step-on}
 use Rattle.board_tables.specs.declared.FreshAnswer.the-variants.{Made}
-use Rattle.board_tables.specs.Entered.{factsFrom, freshFor, stepFor}
-use Rattle.board_tables.specs.EnteredLaws.{runFor, step-other, step-given, fair-from, fresh-of, tested-other, run-answers}
+use Rattle.board_tables.specs.Entered.{factsFrom, freshFor, stepFor, runFor, lastFor}
+use Rattle.board_tables.specs.EnteredLaws.{step-other, step-given, fair-from, fresh-of, tested-other, run-made, run-answers}
 
 module _ (r : PlanRecord) (t : Tables) where
   abbrev F : Facts
   F = factsFrom r t
 
-  -- the board after events, each a call of `step`
-  unfoldable pub lastFor : Board → List Event → Board
-  lastFor b [] = b
-  lastFor b (e ∷ es) = lastFor (stepFor r t b e .board) es
-
-  last-on : isGiven r t ≡ true → (b : Board) (es : List Event) → lastFor b es ≡ boardOn F b es
-  unfolding lastFor boardOn
-  last-on g b [] = refl
-  last-on g b (e ∷ es) = rw (step-given r t g b e) (last-on g _ es)
-
   -- EVENT AFTER EVENT: the last board is that of the board's own rules
-  pub run-last : freshFor r t .answer ≡ Made → (es : List Event) → lastFor (freshFor r t .board) es ≡ boardAfter F (freshFor r t .board) es
-  run-last e es = let h = fresh-of r t e in last-on (h .0) (freshFor r t .board) es ∙ rw (h .1) (fresh-board-on (fair-from r t (h .0)) es)
+  pub run-last : freshFor r t .answer ≡ Made → (es : List Event) → lastFor r t (freshFor r t .board) es ≡ boardAfter F (freshFor r t .board) es
+  run-last e es = run-made r t e es .1
 
   -- "the ticks accepted for a VCPU since its last `top` (or the start), added up from the events, equal budget + O − b − o"
   pub run-ledger : freshFor r t .answer ≡ Made → (v : ℕ) → F .hasVcpu v ≡ true → (es : List Event) →
-      ledger v 0 es (runFor r t (freshFor r t .board) es) + leftOf (lastFor (freshFor r t .board) es) v + overOf (lastFor (freshFor r t .board) es) v
+      ledger v 0 es (runFor r t (freshFor r t .board) es) + leftOf (lastFor r t (freshFor r t .board) es) v + overOf (lastFor r t (freshFor r t .board) es) v
       ≡ F .budget v + F .overrun v
   run-ledger e v k es =
       let h = fresh-of r t e in

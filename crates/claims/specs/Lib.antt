@@ -1,4 +1,5 @@
 pub mod Worked
+pub mod Reported
 pub mod Reports
 pub mod Boards
 pub mod Once

@@ -37,13 +37,12 @@ use Rattle.board_rules.specs.declared.Event.the-variants.{Ask, Free, Use, Top, 
 use Rattle.board_rules.specs.declared.Outcome.{Outcome}
 use Rattle.board_rules.specs.declared.BoardAnswer.{BoardAnswer}
 use Rattle.board_rules.specs.Facts.{Facts}
-use Rattle.board_rules.specs.Events.{boardText}
+use Rattle.board_rules.specs.Events.{boardText, repliesTo}
 use Rattle.log_answers.specs.Tells.{toldInto}
-use Rattle.desk_rooms.specs.Boarded.{answersOn}
 use Rattle.board_tables.specs.declared.FreshBoard.{FreshBoard}
 use Rattle.board_tables.specs.Entered.{freshFor, stepFor}
 use Rattle.records.specs.declared.Task.{Task}
-use Rattle.records_read.specs.ReadLaws.{ReadOut}
+use Rattle.records_read.specs.After.{ReadOut}
 use Rattle.records_ask.specs.declared.Question.{Question}
 use Rattle.records_ask.specs.declared.Replied.{Replied}
 use Rattle.records_ask.specs.Replies.{replyTo}
@@ -63,7 +62,7 @@ five-once p q = (once (p .0) (q .0), once (p .1) (q .1), once (p .2) (q .2), onc
 in-a-row : {A B C D E : Type 0} → A × (B × (C × (D × E))) → A × B × C × D × E
 in-a-row p = (p .0, p .1 .0, p .1 .1 .0, p .1 .1 .1 .0, p .1 .1 .1 .1)
 
--- READING (reader, records)
+-- READING: `read_plan` into tables of numbers (read_plan)
 
 -- what reading into tables of numbers answers, and leaves
 abbrev Reads : List ℕ → Tables → PlanAnswer → Tables → Type 0
@@ -78,7 +77,7 @@ pub read-plan-once : (s : List ℕ) (t : Tables) {a b : PlanAnswer} {u w : Table
     (a ≡ b) × (u .vcpus ≡ w .vcpus) × (u .mutexes ≡ w .mutexes) × (u .opens ≡ w .opens) × (u .tasks ≡ w .tasks)
 read-plan-once s t = five-once
 
--- the same into a slice of records
+-- and into a slice of records (records_read)
 pub read-sheet-once : (s vt mt ot : List ℕ) (ks : List Task) {a b : PlanAnswer} {v v′ m m′ o o′ : List ℕ} {k k′ : List Task} →
     ReadOut s vt mt ot ks a v m o k → ReadOut s vt mt ot ks b v′ m′ o′ k′ → (a ≡ b) × (v ≡ v′) × (m ≡ m′) × (o ≡ o′) × (k ≡ k′)
 read-sheet-once s vt mt ot ks p q = five-once (in-a-row p) (in-a-row q)
@@ -106,7 +105,7 @@ placed-once s at n p q = λ i. record { src = once (p .0) (q .0) i; at = once (p
 pub read-line-once : (s : List ℕ) (at n : ℕ) {a b : Step} → a ≡ stepAt s at n → b ≡ stepAt s at n → a ≡ b
 read-line-once s at n = once
 
--- QUESTIONS ABOUT LENT TABLES (given, entries, sheets)
+-- QUESTIONS ABOUT LENT TABLES: `is_given` (given_test), a row by its names (answers_rows), `reply` (records_ask) where t is `tablesOf` a slice of records
 module _ (r : PlanRecord) (t : Tables) where
   pub is-given-once : {a b : Bool} → a ≡ isGiven r t → b ≡ isGiven r t → a ≡ b
   is-given-once = once
@@ -126,12 +125,12 @@ module _ (r : PlanRecord) (t : Tables) where
   pub reply-once : (q : Question) {a b : Replied} → a ≡ replyTo r t q → b ≡ replyTo r t q → a ≡ b
   reply-once q = once
 
-  -- the listing into a lent buffer o (listing_write, records_ask)
+  -- the listing into a lent buffer o (listing_write; records_ask where t is such)
   pub write-listing-once : (o : List ℕ) {a b : TextAnswer} {u w : List ℕ} →
       (a ≡ listingAsked r t o) × (u ≡ listingLeft r t o) → (b ≡ listingAsked r t o) × (w ≡ listingLeft r t o) → (a ≡ b) × (u ≡ w)
   write-listing-once o = both-once
 
-  -- THE BOARD (boards, sheets): the board handed back is in the outcome
+  -- THE BOARD (board_tables; records_board, `fresh` and `step` alone, where t is such): the board handed back is in the outcome
   pub fresh-once : {a b : FreshBoard} → a ≡ freshFor r t → b ≡ freshFor r t → a ≡ b
   fresh-once = once
 
@@ -155,7 +154,7 @@ module _ (r : PlanRecord) (t : Tables) where
 
 -- the answers to events on a board (log_answers), written into o or only counted
 pub answers-once : (on : Bool) (F : Facts) (b : Board) (s o : List ℕ) {m n : ℕ} {u w : List ℕ} →
-    (m ≡ length (answersOn F b s)) × (u ≡ toldInto on (answersOn F b s) o) → (n ≡ length (answersOn F b s)) × (w ≡ toldInto on (answersOn F b s) o) →
+    (m ≡ length (repliesTo F b s)) × (u ≡ toldInto on (repliesTo F b s) o) → (n ≡ length (repliesTo F b s)) × (w ≡ toldInto on (repliesTo F b s) o) →
     (m ≡ n) × (u ≡ w)
 answers-once on F b s o = both-once
 

@@ -1,6 +1,4 @@
--- "For an accepted plan a response time is reported exactly when some whole number of ticks from zero to the period is at least the demand that this number gives,
--- and it is the smallest such number. Remote waits obey the same rule. A task whose demand rests on a wait without such a number is named so."
--- Said of what the calls answer (answers_rows/Asked).
+-- Demand 3 (Reported) of what the calls answer (answers_rows/Asked).
 use Prim.Native.Nat.{ℕ, _≤_, _<_}
 use mathlib.Core.Path.{_≡_, refl, ap, sym, _∙_}
 use mathlib.Core.Bool.{Bool, true, false, _||_, false≢true, true≢false}
@@ -11,20 +9,22 @@ use native.Mathlib.Omega.{arith}
 use borrow.Author.Tests.{eqb-true, eq-eqb, ltb-true, lt-ltb}
 use lib.Dec.{eqb}
 use Rattle.laws.specs.BoolLaws.{both, both-left, both-right, either-left, either-right}
-use Rattle.laws.specs.Sums.{any}
+use Rattle.laws.specs.Sums.{any, Each}
+use Rattle.laws.specs.SumLaws.{any-row, each-map}
 use Rattle.search.specs.declared.Answer.{Answer}
 use Rattle.search.specs.declared.Answer.the-variants.{Fits, Late}
 use Rattle.search.specs.Search.{window, solve}
 use Rattle.search.specs.SearchLaws.{Answered, solve-answers}
 use Rattle.plan.specs.declared.Refusal.{Refusal}
 use Rattle.plan.specs.declared.Refusal.the-variants.{Foreign, Unknown}
-use Rattle.plan.specs.Plan.{Vcpu, Lock, Task}
-use Rattle.plan.specs.Lookup.{hasVcpu, global}
+use Rattle.plan.specs.declared.Lock.{Lock}
+use Rattle.plan.specs.Plan.{Vcpu, Task}
+use Rattle.plan.specs.Lookup.{hasVcpu}
 use Rattle.plan_tables.specs.declared.PlanRecord.{PlanRecord}
 use Rattle.plan_tables.specs.Layout.{Tables}
 use Rattle.plan_tables.specs.Given.{planIn, isGiven}
 use Rattle.figures.specs.System.{System, system}
-use Rattle.figures.specs.Figures.{vcpuAt, higherTask, vcpuDemand, waitDemand, lengths, taskDemand, response}
+use Rattle.figures.specs.Figures.{vcpuAt, higherTask, vcpuDemand, waitDemand, lengths, taskDemand, response, isSection}
 use Rattle.figures.specs.Named.{hasTask, taskAt, lockAt, hasSection}
 use Rattle.figures.specs.Demands.{vcpu-demand, wait-demand, task-demand}
 use Rattle.figures.specs.declared.TaskAnswer.{TaskAnswer}
@@ -33,16 +33,8 @@ use Rattle.figures.specs.Answers.{vcpuAnswer, waitAnswer, taskAnswer, isLate, r
 use Rattle.answers_rows.specs.declared.RowAnswer.the-variants.{Row, NoRow}
 use Rattle.answers_rows.specs.declared.TaskRowAnswer.the-variants.{TaskRow, NoTaskRow}
 use Rattle.answers_rows.specs.declared.FigureAnswer.the-variants.{Figure, NoFigure}
+use Rattle.claims.specs.Reported.{systemFrom, Reports, NoNumber, HeldUp}
 use Rattle.answers_rows.specs.Asked.{hasPlace, vcpuRowOf, waitRowOf, taskRowOf, responseRowOf, vcpuAsked, waitAsked, taskAsked, responseAsked}
-
--- the plan in lent tables
-abbrev pub planOf : PlanRecord → Tables → System
-planOf r t = system (planIn r t)
-
--- a response time is reported exactly when some number from zero to the limit is at least its demand, and it is the smallest such number
-pub record Reports (d : ℕ → ℕ) (limit : ℕ) (a : Answer) : Type 0 where
-  pub exactly : ((w : ℕ) × (n : ℕ) × (a ≡ Fits w n)) ↔ ((t : ℕ) × (t ≤ limit) × (d t ≤ t))
-  pub smallest : (w n : ℕ) → a ≡ Fits w n → (w ≤ limit) × (d w ≤ w) × ((t : ℕ) → t ≤ limit → d t ≤ t → w ≤ t)
 
 -- THE SEARCHES REPORT SO
 fits-of : (a : Answer) (w : ℕ) → window a ≡ some w → (n : ℕ) × (a ≡ Fits w n)
@@ -80,30 +72,18 @@ reports-late (Late n) h =
 -- WAITS WITHOUT A NUMBER
 -- some test passes exactly when a member passes it
 module _ {A : Type 0} (q : A → Bool) where
+  -- every row of xs is a member of it
+  members : (xs : List A) → Each (λ x. List·Memᴰ x xs) xs
+  members [] = tt
+  members (x ∷ xs) = (List·Memᴰ·head refl, each-map xs (λ y m. List·Memᴰ·tail m) (members xs))
+
   any-some : (xs : List A) → any q xs ≡ true → (x : A) × List·Memᴰ x xs × (q x ≡ true)
-  unfolding any
-  any-some [] e = absurd (false≢true e)
-  any-some (x ∷ xs) e = go (q x) refl e (any-some xs)
-    where
-      go :
-          (b : Bool) → q x ≡ b → (b || any q xs) ≡ true → (any q xs ≡ true → (y : A) × List·Memᴰ y xs × (q y ≡ true)) →
-          (y : A) × List·Memᴰ y (x ∷ xs) × (q y ≡ true)
-      go true f e ih = (x, List·Memᴰ·head refl, f)
-      go false f e ih = let r = ih e in (r .0, List·Memᴰ·tail (r .1), r .2)
+  any-some xs e = let r = any-row q (λ x. List·Memᴰ x xs) xs e (members xs) in (r .row, r .has, r .passes)
 
   some-any : {x : A} (xs : List A) → List·Memᴰ x xs → q x ≡ true → any q xs ≡ true
   unfolding any
   some-any (y ∷ xs) (List·Memᴰ·head e) f = either-left (q y) (any q xs) (ap q (sym e) ∙ f)
   some-any (y ∷ xs) (List·Memᴰ·tail m) f = either-right (q y) (any q xs) (some-any xs m f)
-
--- task k has a global section whose wait has no number: none from zero to its period is at least the demand of the wait
-abbrev pub NoNumber : System → Task → Type 0
-NoNumber s k =
-    (l : Lock) × List·Memᴰ l (k .locks) × (global (s .mutexes) (l .m) ≡ true) × ((t : ℕ) → t ≤ k .period → ¬ (waitDemand s (k .v) (l .m) t ≤ t))
-
--- a higher task of its VCPU has such a section
-abbrev pub HeldUp : System → Task → Type 0
-HeldUp s k = (h : Task) × List·Memᴰ h (s .tasks) × (h .v ≡ k .v) × (k .n < h .n) × NoNumber s h
 
 pub lacks-exactly : (s : System) (k : Task) → (lacksWait s k ≡ true) ↔ NoNumber s k
 unfolding lacksWait
@@ -111,7 +91,7 @@ lacks-exactly s k = (
   λ e.
       let x = any-some _ (k .locks) e in
       let l = x .0 in
-      let g = global (s .mutexes) (l .m) in
+      let g = isSection s l in
       (l, x .1, both-left g _ (x .2), reports-late (waitAnswer s k l) (wait-answer-reports s k l) .0 (both-right g _ (x .2))),
   λ q.
       let l = q .0 in
@@ -152,65 +132,65 @@ not-figure r x e = let z : _≡_ {A = ℕ} 0 1 = cc in omega arith
 module _ (r : PlanRecord) (t : Tables) (v : ℕ) where
   vcpu-answered :
       (a : Answer) → vcpuAsked r t v ≡ Row a →
-      (isGiven r t ≡ true) × (hasVcpu (planOf r t .vcpus) v ≡ true) × (vcpuAnswer (planOf r t) (vcpuAt (planOf r t) v) ≡ a)
+      (isGiven r t ≡ true) × (hasVcpu (systemFrom r t .vcpus) v ≡ true) × (vcpuAnswer (systemFrom r t) (vcpuAt (systemFrom r t) v) ≡ a)
   unfolding vcpuAsked vcpuRowOf
   vcpu-answered a e =
       let x = asked-yes _ _ _ _ _ (Row a) (not-row Unknown a) (not-row Foreign a) e in (x .0, x .1, let y = x .2 in cc)
 
   pub vcpu-reports :
       (a : Answer) → vcpuAsked r t v ≡ Row a →
-      Reports (vcpuDemand (planOf r t) (vcpuAt (planOf r t) v)) (vcpuAt (planOf r t) v .period) a
-  vcpu-reports a e = rw (← vcpu-answered a e .2) (vcpu-answer-reports (planOf r t) (vcpuAt (planOf r t) v))
+      Reports (vcpuDemand (systemFrom r t) (vcpuAt (systemFrom r t) v)) (vcpuAt (systemFrom r t) v .period) a
+  vcpu-reports a e = rw (← vcpu-answered a e .2) (vcpu-answer-reports (systemFrom r t) (vcpuAt (systemFrom r t) v))
 
   -- no faultless call is refused
   pub vcpu-answered-exactly :
-      ((a : Answer) × (vcpuAsked r t v ≡ Row a)) ↔ ((isGiven r t ≡ true) × (hasVcpu (planOf r t .vcpus) v ≡ true))
+      ((a : Answer) × (vcpuAsked r t v ≡ Row a)) ↔ ((isGiven r t ≡ true) × (hasVcpu (systemFrom r t .vcpus) v ≡ true))
   unfolding vcpuAsked vcpuRowOf
   vcpu-answered-exactly = (
     λ q. let x = vcpu-answered (q .0) (q .1) in (x .0, x .1),
-    λ q. (vcpuAnswer (planOf r t) (vcpuAt (planOf r t) v), yes-asked _ _ _ (q .0) (q .1)),
+    λ q. (vcpuAnswer (systemFrom r t) (vcpuAt (systemFrom r t) v), yes-asked _ _ _ (q .0) (q .1)),
   )
 
 module _ (r : PlanRecord) (t : Tables) (v n i : ℕ) where
   wait-answered :
       (a : Answer) → waitAsked r t v n i ≡ Row a →
-      (isGiven r t ≡ true) × (hasPlace (planOf r t) v n i ≡ true)
-      × (waitAnswer (planOf r t) (taskAt (planOf r t) v n) (lockAt (taskAt (planOf r t) v n) i) ≡ a)
+      (isGiven r t ≡ true) × (hasPlace (systemFrom r t) v n i ≡ true)
+      × (waitAnswer (systemFrom r t) (taskAt (systemFrom r t) v n) (lockAt (taskAt (systemFrom r t) v n) i) ≡ a)
   unfolding waitAsked waitRowOf
   wait-answered a e =
       let x = asked-yes _ _ _ _ _ (Row a) (not-row Unknown a) (not-row Foreign a) e in (x .0, x .1, let y = x .2 in cc)
 
   pub wait-reports :
       (a : Answer) → waitAsked r t v n i ≡ Row a →
-      Reports (waitDemand (planOf r t) (taskAt (planOf r t) v n .v) (lockAt (taskAt (planOf r t) v n) i .m))
-      (taskAt (planOf r t) v n .period) a
+      Reports (waitDemand (systemFrom r t) (taskAt (systemFrom r t) v n .v) (lockAt (taskAt (systemFrom r t) v n) i .m))
+      (taskAt (systemFrom r t) v n .period) a
   wait-reports a e =
       rw (← wait-answered a e .2)
-      (wait-answer-reports (planOf r t) (taskAt (planOf r t) v n) (lockAt (taskAt (planOf r t) v n) i))
+      (wait-answer-reports (systemFrom r t) (taskAt (systemFrom r t) v n) (lockAt (taskAt (systemFrom r t) v n) i))
 
   -- task (v, n) is there, with a global section at its place i
   place-both :
-      (hasPlace (planOf r t) v n i ≡ true)
-      ↔ ((hasTask (planOf r t) v n ≡ true) × (hasSection (planOf r t) (taskAt (planOf r t) v n) i ≡ true))
-  place-both = (λ e. (both-left (hasTask (planOf r t) v n) _ e, both-right (hasTask (planOf r t) v n) _ e), λ q. both _ _ (q .0) (q .1))
+      (hasPlace (systemFrom r t) v n i ≡ true)
+      ↔ ((hasTask (systemFrom r t) v n ≡ true) × (hasSection (systemFrom r t) (taskAt (systemFrom r t) v n) i ≡ true))
+  place-both = (λ e. (both-left (hasTask (systemFrom r t) v n) _ e, both-right (hasTask (systemFrom r t) v n) _ e), λ q. both _ _ (q .0) (q .1))
 
   pub wait-answered-exactly :
       ((a : Answer) × (waitAsked r t v n i ≡ Row a))
-      ↔ ((isGiven r t ≡ true) × (hasTask (planOf r t) v n ≡ true)
-      × (hasSection (planOf r t) (taskAt (planOf r t) v n) i ≡ true))
+      ↔ ((isGiven r t ≡ true) × (hasTask (systemFrom r t) v n ≡ true)
+      × (hasSection (systemFrom r t) (taskAt (systemFrom r t) v n) i ≡ true))
   unfolding waitAsked waitRowOf
   wait-answered-exactly = (
     λ q. let x = wait-answered (q .0) (q .1) in let y = place-both .0 (x .1) in (x .0, y .0, y .1),
     λ q. (
-      waitAnswer (planOf r t) (taskAt (planOf r t) v n) (lockAt (taskAt (planOf r t) v n) i),
+      waitAnswer (systemFrom r t) (taskAt (systemFrom r t) v n) (lockAt (taskAt (systemFrom r t) v n) i),
       yes-asked _ _ _ (q .0) (place-both .1 (q .1, q .2)),
     ),
   )
 
   response-answered :
       (x : ℕ) → responseAsked r t v n i ≡ Figure x →
-      (isGiven r t ≡ true) × (hasPlace (planOf r t) v n i ≡ true)
-      × (response (planOf r t) (taskAt (planOf r t) v n) (lockAt (taskAt (planOf r t) v n) i) ≡ x)
+      (isGiven r t ≡ true) × (hasPlace (systemFrom r t) v n i ≡ true)
+      × (response (systemFrom r t) (taskAt (systemFrom r t) v n) (lockAt (taskAt (systemFrom r t) v n) i) ≡ x)
   unfolding responseAsked responseRowOf
   response-answered x e =
       let y = asked-yes _ _ _ _ _ (Figure x) (not-figure Unknown x) (not-figure Foreign x) e in (y .0, y .1, let z = y .2 in cc)
@@ -218,18 +198,18 @@ module _ (r : PlanRecord) (t : Tables) (v n i : ℕ) where
   -- a figure that is answered is the response of the section
   pub response-reports :
       (x : ℕ) → responseAsked r t v n i ≡ Figure x →
-      x ≡ response (planOf r t) (taskAt (planOf r t) v n) (lockAt (taskAt (planOf r t) v n) i)
+      x ≡ response (systemFrom r t) (taskAt (systemFrom r t) v n) (lockAt (taskAt (systemFrom r t) v n) i)
   response-reports x e = sym (response-answered x e .2)
 
   pub response-answered-exactly :
       ((x : ℕ) × (responseAsked r t v n i ≡ Figure x))
-      ↔ ((isGiven r t ≡ true) × (hasTask (planOf r t) v n ≡ true)
-      × (hasSection (planOf r t) (taskAt (planOf r t) v n) i ≡ true))
+      ↔ ((isGiven r t ≡ true) × (hasTask (systemFrom r t) v n ≡ true)
+      × (hasSection (systemFrom r t) (taskAt (systemFrom r t) v n) i ≡ true))
   unfolding responseAsked responseRowOf
   response-answered-exactly = (
     λ q. let x = response-answered (q .0) (q .1) in let y = place-both .0 (x .1) in (x .0, y .0, y .1),
     λ q. (
-      response (planOf r t) (taskAt (planOf r t) v n) (lockAt (taskAt (planOf r t) v n) i),
+      response (systemFrom r t) (taskAt (systemFrom r t) v n) (lockAt (taskAt (systemFrom r t) v n) i),
       yes-asked _ _ _ (q .0) (place-both .1 (q .1, q .2)),
     ),
   )
@@ -302,7 +282,7 @@ module _ (r : PlanRecord) (t : Tables) (v n : ℕ) where
   task-answered :
       (a : TaskAnswer) →
       (taskAsked r t v n ≡ TaskRow a)
-      ↔ ((isGiven r t ≡ true) × (hasTask (planOf r t) v n ≡ true) × (taskAnswer (planOf r t) (taskAt (planOf r t) v n) ≡ a))
+      ↔ ((isGiven r t ≡ true) × (hasTask (systemFrom r t) v n ≡ true) × (taskAnswer (systemFrom r t) (taskAt (systemFrom r t) v n) ≡ a))
   unfolding taskAsked taskRowOf
   task-answered a = (
     λ e. let x = asked-yes _ _ _ _ _ (TaskRow a) (not-task Unknown a) (not-task Foreign a) e in (x .0, x .1, let y = x .2 in cc),
@@ -310,53 +290,53 @@ module _ (r : PlanRecord) (t : Tables) (v n : ℕ) where
   )
 
   pub task-answered-exactly :
-      ((a : TaskAnswer) × (taskAsked r t v n ≡ TaskRow a)) ↔ ((isGiven r t ≡ true) × (hasTask (planOf r t) v n ≡ true))
+      ((a : TaskAnswer) × (taskAsked r t v n ≡ TaskRow a)) ↔ ((isGiven r t ≡ true) × (hasTask (systemFrom r t) v n ≡ true))
   task-answered-exactly = (
     λ q. let x = task-answered (q .0) .0 (q .1) in (x .0, x .1),
-    λ q. let a = taskAnswer (planOf r t) (taskAt (planOf r t) v n) in (a, task-answered a .1 (q .0, q .1, refl)),
+    λ q. let a = taskAnswer (systemFrom r t) (taskAt (systemFrom r t) v n) in (a, task-answered a .1 (q .0, q .1, refl)),
   )
 
   -- a task that is searched rests on no wait without a number
   pub task-reports :
       (a : Answer) → taskAsked r t v n ≡ TaskRow (Searched a) →
-      (¬ NoNumber (planOf r t) (taskAt (planOf r t) v n)) × (¬ HeldUp (planOf r t) (taskAt (planOf r t) v n))
-      × Reports (taskDemand (planOf r t) (remoteWaits (planOf r t)) (taskAt (planOf r t) v n))
-      (taskAt (planOf r t) v n .period) a
+      (¬ NoNumber (systemFrom r t) (taskAt (systemFrom r t) v n)) × (¬ HeldUp (systemFrom r t) (taskAt (systemFrom r t) v n))
+      × Reports (taskDemand (systemFrom r t) (remoteWaits (systemFrom r t)) (taskAt (systemFrom r t) v n))
+      (taskAt (systemFrom r t) v n .period) a
   task-reports a e =
-      let k = taskAt (planOf r t) v n in
-      let x = answer-searched (planOf r t) k a .0 (task-answered (Searched a) .0 e .2) in
-      (x .0, x .1, rw (← x .2) (task-search-reports (planOf r t) (remoteWaits (planOf r t)) k))
+      let k = taskAt (systemFrom r t) v n in
+      let x = answer-searched (systemFrom r t) k a .0 (task-answered (Searched a) .0 e .2) in
+      (x .0, x .1, rw (← x .2) (task-search-reports (systemFrom r t) (remoteWaits (systemFrom r t)) k))
 
   -- it is searched exactly when it rests on none
   pub task-searched-exactly :
       ((a : Answer) × (taskAsked r t v n ≡ TaskRow (Searched a)))
-      ↔ ((isGiven r t ≡ true) × (hasTask (planOf r t) v n ≡ true) × (¬ NoNumber (planOf r t) (taskAt (planOf r t) v n))
-      × (¬ HeldUp (planOf r t) (taskAt (planOf r t) v n)))
+      ↔ ((isGiven r t ≡ true) × (hasTask (systemFrom r t) v n ≡ true) × (¬ NoNumber (systemFrom r t) (taskAt (systemFrom r t) v n))
+      × (¬ HeldUp (systemFrom r t) (taskAt (systemFrom r t) v n)))
   task-searched-exactly = (
     λ q. let x = task-answered (Searched (q .0)) .0 (q .1) in let y = task-reports (q .0) (q .1) in (x .0, x .1, y .0, y .1),
     λ q.
-        let k = taskAt (planOf r t) v n in
-        let a = solve (taskDemand (planOf r t) (remoteWaits (planOf r t)) k) (lengths k) (k .period) in
-        (a, task-answered (Searched a) .1 (q .0, q .1, answer-searched (planOf r t) k a .1 (q .2, q .3, refl))),
+        let k = taskAt (systemFrom r t) v n in
+        let a = solve (taskDemand (systemFrom r t) (remoteWaits (systemFrom r t)) k) (lengths k) (k .period) in
+        (a, task-answered (Searched a) .1 (q .0, q .1, answer-searched (systemFrom r t) k a .1 (q .2, q .3, refl))),
   )
 
   -- it is named `nowait` exactly when one of its own global sections has a wait without a number
   pub task-nowait-exactly :
       (taskAsked r t v n ≡ TaskRow NoWait)
-      ↔ ((isGiven r t ≡ true) × (hasTask (planOf r t) v n ≡ true) × NoNumber (planOf r t) (taskAt (planOf r t) v n))
+      ↔ ((isGiven r t ≡ true) × (hasTask (systemFrom r t) v n ≡ true) × NoNumber (systemFrom r t) (taskAt (systemFrom r t) v n))
   task-nowait-exactly =
-      let k = taskAt (planOf r t) v n in (
-        λ e. let x = task-answered NoWait .0 e in (x .0, x .1, answer-nowait (planOf r t) k .0 (x .2)),
-        λ q. task-answered NoWait .1 (q .0, q .1, answer-nowait (planOf r t) k .1 (q .2)),
+      let k = taskAt (systemFrom r t) v n in (
+        λ e. let x = task-answered NoWait .0 e in (x .0, x .1, answer-nowait (systemFrom r t) k .0 (x .2)),
+        λ q. task-answered NoWait .1 (q .0, q .1, answer-nowait (systemFrom r t) k .1 (q .2)),
       )
 
   -- it is named `held` exactly when none of its own has, and a higher task of its VCPU has such a section
   pub task-held-exactly :
       (taskAsked r t v n ≡ TaskRow Held)
-      ↔ ((isGiven r t ≡ true) × (hasTask (planOf r t) v n ≡ true) × (¬ NoNumber (planOf r t) (taskAt (planOf r t) v n))
-      × HeldUp (planOf r t) (taskAt (planOf r t) v n))
+      ↔ ((isGiven r t ≡ true) × (hasTask (systemFrom r t) v n ≡ true) × (¬ NoNumber (systemFrom r t) (taskAt (systemFrom r t) v n))
+      × HeldUp (systemFrom r t) (taskAt (systemFrom r t) v n))
   task-held-exactly =
-      let k = taskAt (planOf r t) v n in (
-        λ e. let x = task-answered Held .0 e in let y = answer-held (planOf r t) k .0 (x .2) in (x .0, x .1, y .0, y .1),
-        λ q. task-answered Held .1 (q .0, q .1, answer-held (planOf r t) k .1 (q .2, q .3)),
+      let k = taskAt (systemFrom r t) v n in (
+        λ e. let x = task-answered Held .0 e in let y = answer-held (systemFrom r t) k .0 (x .2) in (x .0, x .1, y .0, y .1),
+        λ q. task-answered Held .1 (q .0, q .1, answer-held (systemFrom r t) k .1 (q .2, q .3)),
       )

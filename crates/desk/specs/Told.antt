@@ -11,7 +11,7 @@ use Rattle.plan.specs.declared.Refusal.the-variants.{Room}
 use Rattle.plan.specs.Plan.{Plan}
 use Rattle.plan.specs.Reading.{Reading, reading}
 use Rattle.plan_tables.specs.declared.PlanRecord.{PlanRecord}
-use Rattle.plan_tables.specs.Layout.{Tables}
+use Rattle.plan_tables.specs.Layout.{Tables, lent}
 use Rattle.plan_tables.specs.Given.{planIn, isGiven}
 use Rattle.read_fill.specs.Fill.{vcpuPut, mutexPut, openPut, taskPut}
 use Rattle.read_answer.specs.declared.PlanAnswer.{PlanAnswer}
@@ -83,23 +83,23 @@ module _ {a : PlanAnswer} {t : Tables} (s : Sure a t) {x : Bool} (h : x ≡ isAc
       rw q w
 
 -- of a reading into tables with room for every plan: what it answers, and the rows that its lines leave
-module _ (s : List ℕ) {vt mt ot ts : List ℕ} (l : Ample (record { vcpus = vt; mutexes = mt; opens = ot; tasks = ts })) {a : PlanAnswer} {vu mu ou tu : List ℕ}
-    (h : a ≡ planAnswer s (record { vcpus = vt; mutexes = mt; opens = ot; tasks = ts })) (v : vu ≡ linesLeft vcpuPut s vt) (m : mu ≡ linesLeft mutexPut s mt)
+module _ (s : List ℕ) {vt mt ot ts : List ℕ} (l : Ample (lent vt mt ot ts)) {a : PlanAnswer} {vu mu ou tu : List ℕ}
+    (h : a ≡ planAnswer s (lent vt mt ot ts)) (v : vu ≡ linesLeft vcpuPut s vt) (m : mu ≡ linesLeft mutexPut s mt)
     (o : ou ≡ linesLeft openPut s ot) (k : tu ≡ linesLeft taskPut s ts) where
-  abbrev lent : Tables
-  lent = record { vcpus = vt; mutexes = mt; opens = ot; tasks = ts }
+  abbrev into : Tables
+  into = lent vt mt ot ts
 
   abbrev left : Tables
-  left = record { vcpus = vu; mutexes = mu; opens = ou; tasks = tu }
+  left = lent vu mu ou tu
 
-  left-is : (r : PlanRecord) → a ≡ Accepted r → left ≡ tablesAfter s lent
+  left-is : (r : PlanRecord) → a ≡ Accepted r → left ≡ tablesAfter s into
   left-is r e =
-      let w : _≡_ {A = Tables} left (record { vcpus = linesLeft vcpuPut s vt; mutexes = linesLeft mutexPut s mt; opens = linesLeft openPut s ot; tasks = linesLeft taskPut s ts }) =
-      λ i. record { vcpus = v i; mutexes = m i; opens = o i; tasks = k i } in
-      w ∙ accepted-left s lent r (sym h ∙ e)
+      let w : left ≡ lent (linesLeft vcpuPut s vt) (linesLeft mutexPut s mt) (linesLeft openPut s ot) (linesLeft taskPut s ts) =
+      λ i. lent (v i) (m i) (o i) (k i) in
+      w ∙ accepted-left s into r (sym h ∙ e)
 
   left-lies : (r : PlanRecord) → a ≡ Accepted r → (p : Plan) × Lies s r left p
-  left-lies r e = rw (left-is r e) (accepted-lies s lent l r (sym h ∙ e))
+  left-lies r e = rw (left-is r e) (accepted-lies s into l r (sym h ∙ e))
 
   pub left-sure : Sure a left
   left-sure = record { given = λ r e. left-lies r e .1 .given }
@@ -114,8 +114,8 @@ module _ (s : List ℕ) {vt mt ot ts : List ℕ} (l : Ample (record { vcpus = vt
       ap listing (w .1 .holds) ∙ ap readText (sym (w .1 .reads))
 
   refused-told : (on : Bool) (es : List ℕ) (x : Refusal) (n : ℕ) → a ≡ Refused x n → refusedLine x n ≡ textFor on (reading s) es
-  refused-told true es x n e = ap (λ x. eventsText x es) (sym (refused-reads s lent l x n (sym h ∙ e)))
-  refused-told false es x n e = ap readText (sym (refused-reads s lent l x n (sym h ∙ e)))
+  refused-told true es x n e = ap (λ x. eventsText x es) (sym (refused-reads s into l x n (sym h ∙ e)))
+  refused-told false es x n e = ap readText (sym (refused-reads s into l x n (sym h ∙ e)))
 
   left-told : (on : Bool) (es : List ℕ) (z : PlanAnswer) → a ≡ z → toldOr on z left es ≡ textFor on (reading s) es
   left-told on es (Accepted r) e = accepted-told on es r e

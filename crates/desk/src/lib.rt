@@ -8,6 +8,7 @@ ghost use mathlib.Core.Bool.{true};
 ghost use Prim.Native.Nat.{_≤_};
 ghost use lib.ListN.{length};
 ghost use Rattle.plan.specs.Reading.{reading};
+ghost use Rattle.plan_tables.specs.Layout.{lent};
 ghost use Rattle.plan_tables.specs.Given.{isGiven};
 ghost use Rattle.listing.specs.Listing.{refusedLine, verdictText};
 ghost use Rattle.board_rules.specs.Events.{boardText};
@@ -70,9 +71,9 @@ fn text_into(
     src: &[u8],
     out: &mut [u8],
 ) -> TextAnswer
-    requires { ⌜ (isGiven r (record { vcpus = now vt; mutexes = now mt; opens = now ot; tasks = now ts }) ≡ true) × (length (now src) ≤ 65536) ⌝ }
-    ensures { λ a. ⌜ a ≡ textAnswer (toldIn on r (record { vcpus = now (vt .entry); mutexes = now (mt .entry); opens = now (ot .entry); tasks = now (ts .entry) }) (now (src .entry))) (now (out .entry)) ⌝ }
-    ensures { λ a. ⌜ now (out .exit) ≡ textAfter (toldIn on r (record { vcpus = now (vt .entry); mutexes = now (mt .entry); opens = now (ot .entry); tasks = now (ts .entry) }) (now (src .entry))) (now (out .entry)) ⌝ }
+    requires { ⌜ (isGiven r (lent (now vt) (now mt) (now ot) (now ts)) ≡ true) × (length (now src) ≤ 65536) ⌝ }
+    ensures { λ a. ⌜ a ≡ textAnswer (toldIn on r (lent (now (vt .entry)) (now (mt .entry)) (now (ot .entry)) (now (ts .entry))) (now (src .entry))) (now (out .entry)) ⌝ }
+    ensures { λ a. ⌜ now (out .exit) ≡ textAfter (toldIn on r (lent (now (vt .entry)) (now (mt .entry)) (now (ot .entry)) (now (ts .entry))) (now (src .entry))) (now (out .entry)) ⌝ }
 {
     if on {
         return log_text::answers_into(r, vt, mt, ot, ts, src, out);
@@ -91,9 +92,9 @@ fn text_or(
     src: &[u8],
     out: &mut [u8],
 ) -> TextAnswer
-    requires { ⌜ Sure a (record { vcpus = now vt; mutexes = now mt; opens = now ot; tasks = now ts }) × (length (now src) ≤ 65536) ⌝ }
-    ensures { λ x. ⌜ x ≡ textAnswer (toldOr on a (record { vcpus = now (vt .entry); mutexes = now (mt .entry); opens = now (ot .entry); tasks = now (ts .entry) }) (now (src .entry))) (now (out .entry)) ⌝ }
-    ensures { λ x. ⌜ now (out .exit) ≡ textAfter (toldOr on a (record { vcpus = now (vt .entry); mutexes = now (mt .entry); opens = now (ot .entry); tasks = now (ts .entry) }) (now (src .entry))) (now (out .entry)) ⌝ }
+    requires { ⌜ Sure a (lent (now vt) (now mt) (now ot) (now ts)) × (length (now src) ≤ 65536) ⌝ }
+    ensures { λ x. ⌜ x ≡ textAnswer (toldOr on a (lent (now (vt .entry)) (now (mt .entry)) (now (ot .entry)) (now (ts .entry))) (now (src .entry))) (now (out .entry)) ⌝ }
+    ensures { λ x. ⌜ now (out .exit) ≡ textAfter (toldOr on a (lent (now (vt .entry)) (now (mt .entry)) (now (ot .entry)) (now (ts .entry))) (now (src .entry))) (now (out .entry)) ⌝ }
 {
     if read_answer::is_accepted(a) {
         let r = record_in(a);

@@ -4,8 +4,6 @@ use mathlib.Core.Path.{_≡_, ap, _∙_}
 use mathlib.Core.List.{List}
 use mathlib.Core.Bool.{true}
 use lib.ListN.{length, take}
-use Rattle.laws.specs.Bytes.{pieces}
-use Rattle.plan.specs.Limits.{lf}
 use Rattle.plan.specs.declared.Policy.{Policy}
 use Rattle.plan.specs.declared.OverrunChoice.{OverrunChoice}
 use Rattle.plan.specs.Plan.{Plan}
@@ -20,23 +18,19 @@ use Rattle.board_rules.specs.Facts.{Facts, factsOf}
 use Rattle.board_rules.specs.View.{viewLength, factsIn}
 use Rattle.board_rules.specs.declared.Board.{Board}
 use Rattle.board_rules.specs.Board.{fresh}
-use Rattle.board_rules.specs.Events.{lineAnswers, answersText}
+use Rattle.board_rules.specs.Events.{repliesTo}
 use Rattle.board_keeps.specs.FairLaws.{fair}
 use Rattle.board_keeps.specs.Runs.{fresh-good}
 use Rattle.board_viewcells.specs.ViewOf.{viewOf}
-use Rattle.board_views.specs.TableLaws.{given-facts}
+use Rattle.board_views.specs.TableLaws.{view-facts}
 use Rattle.listing_lines.specs.declared.TextAnswer.{TextAnswer}
 use Rattle.listing_lines.specs.Into.{textAnswer, textAfter}
 use Rattle.log_answers.specs.Small.{small}
 use Rattle.log_answers.specs.Bound.{answers-bound}
 
--- the answers to the events of es on board b
-abbrev pub answersOn : Facts → Board → List ℕ → List ℕ
-answersOn F b es = answersText (lineAnswers F b (pieces lf es))
-
--- from a fresh board
+-- the lines of the answers to the lines of es, from a fresh board
 unfoldable pub answersFor : Facts → List ℕ → List ℕ
-answersFor F es = answersOn F (fresh F) es
+answersFor F es = repliesTo F (fresh F) es
 
 -- the answers are together at most ten times as long as the events
 pub plan-bound : (p : Plan) (es : List ℕ) → Valid p → length (answersFor (factsOf (system p)) es) ≤ 10 * length es
@@ -45,24 +39,20 @@ plan-bound p es h = answers-bound (factsOf (system p)) (fresh (factsOf (system p
 
 module _ (r : PlanRecord) (t : Tables) (view : List ℕ) (g : isGiven r t ≡ true)
     (e : take viewLength view ≡ viewOf (systemIn r (t .vcpus) (t .mutexes) (t .tasks))) where
-  -- the facts in the view are the plan's
-  pub view-facts : factsIn (r .policy) (r .overrun) view ≡ factsOf (system (planIn r t))
-  view-facts = let w = given-plan r t g in given-facts view (w .0) (w .1) e
-
   -- the answers from a board that is fresh by the view are the plan's
-  pub view-answers : (b : Board) (es : List ℕ) → ((p : Policy) (o : OverrunChoice) → b ≡ fresh (factsIn p o view)) → answersOn (factsIn (r .policy) (r .overrun) view) b es ≡ answersFor (factsOf (system (planIn r t))) es
+  pub view-answers : (b : Board) (es : List ℕ) → ((p : Policy) (o : OverrunChoice) → b ≡ fresh (factsIn p o view)) → repliesTo (factsIn (r .policy) (r .overrun) view) b es ≡ answersFor (factsOf (system (planIn r t))) es
   unfolding answersFor
   view-answers b es h =
-      ap (λ x. answersOn (factsIn (r .policy) (r .overrun) view) x es) (h (r .policy) (r .overrun))
-      ∙ ap (λ F. answersOn F (fresh F) es) view-facts
+      ap (λ x. repliesTo (factsIn (r .policy) (r .overrun) view) x es) (h (r .policy) (r .overrun))
+      ∙ ap (λ F. repliesTo F (fresh F) es) (view-facts r t view g e)
 
   module _ (b : Board) (es : List ℕ) (h : (p : Policy) (o : OverrunChoice) → b ≡ fresh (factsIn p o view)) where
     -- they are short
-    pub view-short : length (answersOn (factsIn (r .policy) (r .overrun) view) b es) ≤ 10 * length es
+    pub view-short : length (repliesTo (factsIn (r .policy) (r .overrun) view) b es) ≤ 10 * length es
     view-short = rw (view-answers b es h) (plan-bound (planIn r t) es (given-plan r t g .0))
 
     -- written into a buffer, they are the plan's answers there
     pub view-text : {a : TextAnswer} (o : List ℕ) {p : List ℕ} →
-        (a ≡ textAnswer (answersOn (factsIn (r .policy) (r .overrun) view) b es) o) × (p ≡ textAfter (answersOn (factsIn (r .policy) (r .overrun) view) b es) o) →
+        (a ≡ textAnswer (repliesTo (factsIn (r .policy) (r .overrun) view) b es) o) × (p ≡ textAfter (repliesTo (factsIn (r .policy) (r .overrun) view) b es) o) →
         (a ≡ textAnswer (answersFor (factsOf (system (planIn r t))) es) o) × (p ≡ textAfter (answersFor (factsOf (system (planIn r t))) es) o)
     view-text {a} o {p} w = (w .0 ∙ ap (λ x. textAnswer x o) (view-answers b es h), w .1 ∙ ap (λ x. textAfter x o) (view-answers b es h))

@@ -6,10 +6,10 @@ use Rattle.laws.specs.Sums.{sum, any, all}
 use Rattle.search.specs.declared.Answer.{Answer}
 use Rattle.search.specs.declared.Answer.the-variants.{Fits, Late}
 use Rattle.search.specs.Search.{solve}
-use Rattle.plan.specs.Plan.{Vcpu, Lock, Task}
-use Rattle.plan.specs.Lookup.{global}
+use Rattle.plan.specs.declared.Lock.{Lock}
+use Rattle.plan.specs.Plan.{Vcpu, Task}
 use Rattle.figures.specs.System.{System}
-use Rattle.figures.specs.Figures.{higherTask, vcpuStart, vcpuDemand, waitStart, waitDemand, lengths, taskDemand}
+use Rattle.figures.specs.Figures.{higherTask, vcpuStart, vcpuDemand, waitStart, waitDemand, lengths, taskDemand, isSection}
 pub use Rattle.figures.specs.declared.TaskAnswer.{TaskAnswer}
 pub use Rattle.figures.specs.declared.TaskAnswer.the-variants.{Searched, NoWait, Held}
 
@@ -45,11 +45,11 @@ isLate (Late n) = true
 
 -- a task's remote waits: one for each of its global sections
 unfoldable pub remoteWaits : System → Task → ℕ
-remoteWaits p k = sum (λ l. when (global (p .mutexes) (l .m)) (ticksOf (waitAnswer p k l))) (k .locks)
+remoteWaits p k = sum (λ l. when (isSection p l) (ticksOf (waitAnswer p k l))) (k .locks)
 
 -- one of its own waits has no answer
 unfoldable pub lacksWait : System → Task → Bool
-lacksWait p k = any (λ l. global (p .mutexes) (l .m) && isLate (waitAnswer p k l)) (k .locks)
+lacksWait p k = any (λ l. isSection p l && isLate (waitAnswer p k l)) (k .locks)
 
 -- a higher task of its VCPU has such a wait
 unfoldable pub isHeld : System → Task → Bool

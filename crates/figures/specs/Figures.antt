@@ -8,7 +8,8 @@ use Rattle.plan.specs.declared.Policy.{Policy}
 use Rattle.plan.specs.declared.Policy.the-variants.{Periodic, Deferrable}
 use Rattle.plan.specs.declared.OverrunChoice.{OverrunChoice}
 use Rattle.plan.specs.declared.OverrunChoice.the-variants.{WithOverrun, WithoutOverrun}
-use Rattle.plan.specs.Plan.{Vcpu, Lock, Task}
+use Rattle.plan.specs.declared.Lock.{Lock}
+use Rattle.plan.specs.Plan.{Vcpu, Task}
 pub use Rattle.plan.specs.Plan.{noVcpu}
 use Rattle.plan.specs.Lookup.{global, localTo}
 use Rattle.figures.specs.System.{System}
@@ -30,9 +31,13 @@ lowerTask k h = eqb (h .v) (k .v) && ltb (h .n) (k .n)
 abbrev pub higherTask : Task → Task → Bool
 higherTask k h = eqb (h .v) (k .v) && ltb (k .n) (h .n)
 
--- "Global section" means a lock on a G mutex: its ticks, 0 for another lock
+-- "Global section" means a lock on a G mutex
+abbrev pub isSection : System → Lock → Bool
+isSection p l = global (p .mutexes) (l .m)
+
+-- its ticks, 0 for another lock
 abbrev pub globalTicks : System → Lock → ℕ
-globalTicks p l = when (global (p .mutexes) (l .m)) (l .ticks)
+globalTicks p l = when (isSection p l) (l .ticks)
 
 -- a task's longest global section (0 if none), the sum of them, and how many there are
 unfoldable pub longestGlobal : System → Task → ℕ
@@ -42,7 +47,7 @@ unfoldable pub globalSum : System → Task → ℕ
 globalSum p k = sum (globalTicks p) (k .locks)
 
 unfoldable pub globalCount : System → Task → ℕ
-globalCount p k = sum (λ l. when (global (p .mutexes) (l .m)) 1) (k .locks)
+globalCount p k = sum (λ l. when (isSection p l) 1) (k .locks)
 
 -- ght(v), eq. 1: over tasks of v, the sum of each one's longest global section
 unfoldable pub ght : System → ℕ → ℕ

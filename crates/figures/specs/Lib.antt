@@ -2,6 +2,8 @@ pub mod System
 pub mod Figures
 pub mod Named
 pub mod Answers
+pub mod Kinds
+pub mod KindLaws
 pub mod Demands
 pub mod Tabled
 pub mod Parts

@@ -4,11 +4,12 @@ use mathlib.Core.Bool.{Bool, _&&_}
 use lib.Dec.{eqb}
 use lib.ListN.{length, getD}
 use Rattle.laws.specs.Sums.{any, first}
-use Rattle.plan.specs.Plan.{Lock, Task}
+use Rattle.plan.specs.declared.Lock.{Lock}
+use Rattle.plan.specs.Plan.{Task}
 pub use Rattle.plan.specs.Plan.{noTask, noLock}
-use Rattle.plan.specs.Lookup.{global}
 use Rattle.plan.specs.Rules.{within}
 use Rattle.figures.specs.System.{System}
+use Rattle.figures.specs.Figures.{isSection}
 
 -- task (v, n) is in the plan
 unfoldable pub hasTask : System → ℕ → ℕ → Bool
@@ -24,4 +25,4 @@ lockAt k i = getD (k .locks) (i - 1) noLock
 
 -- at place i of task k stands a global section
 unfoldable pub hasSection : System → Task → ℕ → Bool
-hasSection s k i = within i 1 (length (k .locks)) && global (s .mutexes) (lockAt k i .m)
+hasSection s k i = within i 1 (length (k .locks)) && isSection s (lockAt k i)

@@ -3,7 +3,8 @@ use Prim.Native.Nat.{ℕ}
 use mathlib.Core.Bool.{Bool, _&&_}
 use Rattle.laws.specs.Choice.{when}
 use Rattle.laws.specs.Sums.{sum, greatest}
-use Rattle.plan.specs.Plan.{Lock, Task}
+use Rattle.plan.specs.declared.Lock.{Lock}
+use Rattle.plan.specs.Plan.{Task}
 use Rattle.plan.specs.Lookup.{localTo}
 use Rattle.figures.specs.System.{System}
 use Rattle.figures.specs.Figures.{lowerTask, higherTask, longestGlobal, ceiling, ceilingCounts, longestLocal}

@@ -5,7 +5,7 @@ use mathlib.Core.List.{List}
 use mathlib.Core.Bool.{true}
 use lib.ListN.{length, getD}
 use Rattle.laws.specs.Rows.{rows}
-use Rattle.plan.specs.Limits.{maxV, maxM, maxTasks, maxLocks, maxPeriod, maxLength}
+use Rattle.plan.specs.Limits.{maxV, maxM, mostTasks, maxLocks, maxPeriod, maxLength}
 use Rattle.plan.specs.Lookup.{hasVcpu}
 use Rattle.plan.specs.Valid.{VcpuValid}
 use Rattle.plan_tables.specs.declared.PlanRecord.{PlanRecord}
@@ -27,7 +27,7 @@ systemIn r vt mt tt =
 pub record Fit (r : PlanRecord) (vt mt tt : List ℕ) : Type 0 where
   pub vcpus-few : r .vcpus ≤ maxV
   pub mutexes-few : r .mutexes ≤ maxM
-  pub tasks-few : r .tasks ≤ maxTasks
+  pub tasks-few : r .tasks ≤ mostTasks
   pub vcpus-room : r .vcpus * vcpuWidth ≤ length vt
   pub mutexes-room : r .mutexes * mutexWidth ≤ length mt
   pub tasks-room : r .tasks * taskWidth ≤ length tt

@@ -1,6 +1,7 @@
 // What the rows of a plan in lent tables say: their numbers, and the figures of one row. The figures stand in crate figures, specs/Figures.
 use plan::larger;
 use plan_tables::PlanRecord;
+use plan_tables::TASK_WIDTH;
 ghost use mathlib.Core.Path.{_≡_};
 ghost use mathlib.Core.Bool.{_&&_};
 ghost use Prim.Native.Nat.{_+_, _*_, _<_};
@@ -8,9 +9,9 @@ ghost use lib.Dec.{eqb};
 ghost use Rattle.laws.specs.Choice.{when};
 ghost use Rattle.laws.specs.Rows.{Is};
 ghost use Rattle.plan.specs.Lookup.{isGlobal, isLocalTo, global, localTo};
-ghost use Rattle.plan_tables.specs.Layout.{cell, mutexRow, lockRow, taskRow};
+ghost use Rattle.plan_tables.specs.Layout.{cell, mutexRow, lockRow, taskRow, taskWidth};
 ghost use Rattle.figures.specs.Tabled.{Fit, systemIn};
-ghost use Rattle.figures.specs.Figures.{lowerTask, globalTicks, longestGlobal, globalSum, globalCount, lengths, locksIt, ceiling, longestLocal};
+ghost use Rattle.figures.specs.Figures.{lowerTask, globalTicks, longestGlobal, globalSum, globalCount, lengths, locksIt, ceiling, longestLocal, isSection};
 ghost use Rattle.figures.specs.Parts.{countsLocal, localTicks, greatestLocal};
 
 // Number c of VCPU row a.
@@ -31,18 +32,18 @@ fn mutex_cell(r: PlanRecord, vt: &[u64], mt: &[u64], ts: &[u64], a: usize, c: us
 
 // Number c of task row i.
 pub fn task_cell(r: PlanRecord, vt: &[u64], mt: &[u64], ts: &[u64], i: usize, c: usize) -> u64
-    requires { ⌜ Fit r (now vt) (now mt) (now ts) × (i < r .tasks) × (c < 29) ⌝ }
-    ensures { λ x. ⌜ Is x (cell (now (ts .entry)) 29 i c) 1000000 ⌝ }
+    requires { ⌜ Fit r (now vt) (now mt) (now ts) × (i < r .tasks) × (c < taskWidth) ⌝ }
+    ensures { λ x. ⌜ Is x (cell (now (ts .entry)) taskWidth i c) 1000000 ⌝ }
 {
-    ts[i * 29 + c]
+    ts[i * TASK_WIDTH + c]
 }
 
 // How many locks task i has.
 pub fn lock_count(r: PlanRecord, vt: &[u64], mt: &[u64], ts: &[u64], i: usize) -> usize
     requires { ⌜ Fit r (now vt) (now mt) (now ts) × (i < r .tasks) ⌝ }
-    ensures { λ x. ⌜ Is x (cell (now (ts .entry)) 29 i 4) 8 ⌝ }
+    ensures { λ x. ⌜ Is x (cell (now (ts .entry)) taskWidth i 4) 8 ⌝ }
 {
-    ts[i * 29 + 4] as usize
+    ts[i * TASK_WIDTH + 4] as usize
 }
 
 // Number c of lock j of task i.
@@ -56,9 +57,9 @@ pub fn lock_cell(
     c: usize,
 ) -> u64
     requires { ⌜ Fit r (now vt) (now mt) (now ts) × (i < r .tasks) × (j < 8) × (c < 3) ⌝ }
-    ensures { λ x. ⌜ Is x (cell (now (ts .entry)) 29 i (5 + (j * 3 + c))) 1000000 ⌝ }
+    ensures { λ x. ⌜ Is x (cell (now (ts .entry)) taskWidth i (5 + (j * 3 + c))) 1000000 ⌝ }
 {
-    ts[i * 29 + (5 + (j * 3 + c))]
+    ts[i * TASK_WIDTH + (5 + (j * 3 + c))]
 }
 
 // Is mutex row a the mutex m, and global?
@@ -126,7 +127,7 @@ fn global_ticks(r: PlanRecord, vt: &[u64], mt: &[u64], ts: &[u64], i: usize, j: 
 // 1 where lock j of task i is a global section, else 0.
 fn global_one(r: PlanRecord, vt: &[u64], mt: &[u64], ts: &[u64], i: usize, j: usize) -> u64
     requires { ⌜ Fit r (now vt) (now mt) (now ts) × (i < r .tasks) × (j < 8) ⌝ }
-    ensures { λ x. ⌜ Is x (when (global (systemIn r (now (vt .entry)) (now (mt .entry)) (now (ts .entry)) .mutexes) (lockRow (now (ts .entry)) i j .m)) 1) 1 ⌝ }
+    ensures { λ x. ⌜ Is x (when (isSection (systemIn r (now (vt .entry)) (now (mt .entry)) (now (ts .entry))) (lockRow (now (ts .entry)) i j)) 1) 1 ⌝ }
 {
     if is_global(r, vt, mt, ts, lock_cell(r, vt, mt, ts, i, j, 0)) {
         1

@@ -10,7 +10,7 @@ use lib.Dec.{eqb, ltb}
 use lib.ListN.{length}
 use Rattle.laws.specs.Choice.{when}
 use Rattle.laws.specs.Sums.{up, sum, only, Each}
-use Rattle.laws.specs.SumLaws.{sum-both, sum-same, each-append}
+use Rattle.laws.specs.SumLaws.{sum-both, sum-same, each-append, when-plus}
 use Rattle.laws.specs.Rows.{rows, Is}
 use Rattle.laws.specs.RowLaws.{each-rows}
 use Rattle.search.specs.Search.{solve}
@@ -19,17 +19,20 @@ use Rattle.search.specs.Row.{Row, Picked, Sound, share, rowsDemand}
 use Rattle.search.specs.TableLaws.{sum-pick, demand-pick, each-pick, picked-in, picked-out}
 use Rattle.plan.specs.declared.Policy.{Policy}
 use Rattle.plan.specs.declared.Policy.the-variants.{Periodic, Deferrable}
-use Rattle.plan.specs.Plan.{Vcpu, Lock, Task}
+use Rattle.plan.specs.declared.Lock.{Lock}
+use Rattle.plan.specs.Plan.{Vcpu, Task}
 use Rattle.plan.specs.Lookup.{global}
 use Rattle.plan.specs.Valid.{VcpuValid}
+use Rattle.plan.specs.Limits.{mostTasks}
 use Rattle.plan_tables.specs.declared.PlanRecord.{PlanRecord}
-use Rattle.plan_tables.specs.Layout.{cell, vcpuRow, lockRow, taskRow}
+use Rattle.plan_tables.specs.Layout.{cell, vcpuRow, lockRow, taskRow, taskWidth}
 use Rattle.figures.specs.System.{System}
 use Rattle.figures.specs.Tabled.{Fit, systemIn}
 use Rattle.figures.specs.Answers.{vcpuAnswer}
 use Rattle.figures_slices.specs.Stored.{sectionResponse}
 use Rattle.figures.specs.Figures.{lowerOn, higherOn, globalSum, ght, jitter, blockingBy, blocking, vcpuStart, vcpuDemand, response, waitStart, waitDemand}
 use Rattle.figures_slices.specs.Costs.{costs, costRow, costRows, isDeferrable, lowerTimes, blockingCost, blockingGht, higherRow, vcpuBase, vcpuRows, waitCost, Added}
+use Rattle.figures_slices.specs.Filled.{sectionAt}
 
 -- SUMS
 pub sum-nil : {A : Type 0} (xs : List A) → sum (λ x. 0) xs ≡ 0
@@ -59,11 +62,6 @@ unfolding when
 when-nil true = refl
 when-nil false = refl
 
-when-both : (b : Bool) (x y : ℕ) → when b (x + y) ≡ when b x + when b y
-unfolding when
-when-both true x y = refl
-when-both false x y = refl
-
 -- f over the rows that go with each chosen row, or how many chosen rows go with each, times f
 module _ {A B : Type 0} (q : A → Bool) (on : A → B → Bool) (f : B → ℕ) where
   count-one : (b : B) (xs : List A) → sum (λ x. when (q x) (when (on x b) (f b))) xs ≡ sum (λ x. when (q x && on x b) 1) xs * f b
@@ -76,7 +74,7 @@ module _ {A B : Type 0} (q : A → Bool) (on : A → B → Bool) (f : B → ℕ)
   unfolding sum
   sum-swap xs [] = sum-same xs (λ x. when-nil (q x)) ∙ sum-nil xs
   sum-swap xs (y ∷ ys) =
-      sum-same xs (λ x. when-both (q x) (when (on x y) (f y)) (sum (λ y. when (on x y) (f y)) ys))
+      sum-same xs (λ x. when-plus (q x) (when (on x y) (f y)) (sum (λ y. when (on x y) (f y)) ys))
       ∙ sum-both (λ x. when (q x) (when (on x y) (f y))) (λ x. when (q x) (sum (λ y. when (on x y) (f y)) ys)) xs
       ∙ ap₂ _+_ (count-one y xs) (sum-swap xs ys)
 
@@ -134,7 +132,7 @@ unfolding costRow
 cost-row-is cost k e f = row-same refl (sym e) (sym f)
 
 -- there is room for one more row
-pub cost-room : (cost : Task → ℕ) (thing : ℕ → Task) {n k i : ℕ} {xs : List ℕ} (m : ℕ) → Picked (costs cost) (costRow cost) thing [] 0 n xs k i → length xs ≡ m → 240 ≤ m → n ≤ 64 → i < n →
+pub cost-room : (cost : Task → ℕ) (thing : ℕ → Task) {n k i : ℕ} {xs : List ℕ} (m : ℕ) → Picked (costs cost) (costRow cost) thing [] 0 n xs k i → length xs ≡ m → 240 ≤ m → n ≤ mostTasks → i < n →
     k * 3 + 3 ≤ length xs
 cost-room cost thing m h e room few l = omega (arith, h .built .few, e, room, few, l)
 
@@ -227,12 +225,12 @@ pub wait-sound : {r : PlanRecord} {vt mt ts : List ℕ} {xs : List Row} (cost : 
 wait-sound {r} {ts} cost h e = rw e (cost-sound cost (rows (r .tasks) (taskRow ts)) (task-periods h))
 
 -- a stored response of a lock on a global mutex is the section's
-pub section-is : {y b m : ℕ} (s : System) (t : List ℕ) (i j : ℕ) → Is y (sectionResponse s t i j) b → j < cell t 29 i 4 → global (s .mutexes) m ≡ true
+pub section-is : {y b m : ℕ} (s : System) (t : List ℕ) (i j : ℕ) → Is y (sectionResponse s t i j) b → j < cell t taskWidth i 4 → global (s .mutexes) m ≡ true
     → lockRow t i j .m ≡ m → Is y (response s (taskRow t i) (lockRow t i j)) b
-unfolding sectionResponse when
-section-is s t i j h l g e = rw (lt-ltb j (cell t 29 i 4) l, ap (global (s .mutexes)) e ∙ g) at h
+unfolding sectionResponse sectionAt when
+section-is s t i j h l g e = rw (lt-ltb j (cell t taskWidth i 4) l, ap (global (s .mutexes)) e ∙ g) at h
 
 -- what is worked out over the first n locks of task i, which has n
-pub over-locks : {x b n : ℕ} (t : List ℕ) (i : ℕ) (g : List Lock → ℕ) → n ≡ cell t 29 i 4 → Is x (g (rows n (lockRow t i))) b → Is x (g (taskRow t i .locks)) b
+pub over-locks : {x b n : ℕ} (t : List ℕ) (i : ℕ) (g : List Lock → ℕ) → n ≡ cell t taskWidth i 4 → Is x (g (rows n (lockRow t i))) b → Is x (g (taskRow t i .locks)) b
 unfolding taskRow
 over-locks t i g e h = rw e at h

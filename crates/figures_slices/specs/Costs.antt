@@ -10,7 +10,8 @@ use Rattle.laws.specs.Sums.{sum, only}
 use Rattle.search.specs.Row.{Row, pushed}
 use Rattle.plan.specs.declared.Policy.{Policy}
 use Rattle.plan.specs.declared.Policy.the-variants.{Periodic, Deferrable}
-use Rattle.plan.specs.Plan.{Vcpu, Lock, Task}
+use Rattle.plan.specs.declared.Lock.{Lock}
+use Rattle.plan.specs.Plan.{Vcpu, Task}
 use Rattle.figures.specs.System.{System}
 use Rattle.figures.specs.Figures.{lowerOn, higherOn, globalSum, ght, jitter, vcpuStart, response}
 

@@ -9,15 +9,14 @@ use Rattle.laws.specs.Choice.{if_then_else_}
 use Rattle.laws.specs.Sums.{flat}
 use Rattle.laws.specs.Rows.{rows}
 use Rattle.search.specs.declared.Answer.{Answer}
-use Rattle.search.specs.declared.Answer.the-variants.{Fits, Late}
 use Rattle.search.specs.Search.{rounds}
 use Rattle.search.specs.Row.{Row, rowIn}
-use Rattle.plan.specs.Lookup.{global}
-use Rattle.plan_tables.specs.Layout.{cell, lockRow, taskRow}
+use Rattle.plan_tables.specs.Layout.{cell, lockRow, taskRow, taskWidth}
 use Rattle.figures.specs.System.{System}
 use Rattle.figures.specs.declared.TaskAnswer.{TaskAnswer}
-use Rattle.figures.specs.declared.TaskAnswer.the-variants.{Searched, NoWait, Held}
 use Rattle.figures.specs.Answers.{waitAnswer, ticksOf}
+use Rattle.figures.specs.Figures.{isSection}
+use Rattle.figures.specs.Kinds.{answerKind, taskKind, taskTicks, taskRounds}
 
 abbrev pub rowCells : Row → List ℕ
 rowCells r = r .shift ∷ r .period ∷ r .cost ∷ []
@@ -25,40 +24,20 @@ rowCells r = r .shift ∷ r .period ∷ r .cost ∷ []
 abbrev pub threeOf : ℕ → ℕ → ℕ → Row
 threeOf x y z = record { shift = x; period = y; cost = z }
 
--- the numbers of an answer
-abbrev pub answerKind : Answer → ℕ
-answerKind (Fits w n) = 1
-answerKind (Late n) = 0
-
+-- an answer's kind, ticks and rounds
 abbrev pub answerRow : Answer → Row
 answerRow a = threeOf (answerKind a) (ticksOf a) (rounds a)
-
--- those of a task's answer
-abbrev pub taskKind : TaskAnswer → ℕ
-taskKind (Searched a) = answerKind a
-taskKind NoWait = 2
-taskKind Held = 3
-
-abbrev pub taskTicks : TaskAnswer → ℕ
-taskTicks (Searched a) = ticksOf a
-taskTicks NoWait = 0
-taskTicks Held = 0
-
-abbrev pub taskRounds : TaskAnswer → ℕ
-taskRounds (Searched a) = rounds a
-taskRounds NoWait = 0
-taskRounds Held = 0
 
 abbrev pub taskAnswerRow : TaskAnswer → Row
 taskAnswerRow a = threeOf (taskKind a) (taskTicks a) (taskRounds a)
 
--- lock j of task i is a global section
-unfoldable pub isSection : System → List ℕ → ℕ → ℕ → Bool
-isSection s t i j = ltb j (cell t 29 i 4) && global (s .mutexes) (lockRow t i j .m)
+-- lock j of task i of the table is a global section
+unfoldable pub sectionAt : System → List ℕ → ℕ → ℕ → Bool
+sectionAt s t i j = ltb j (cell t taskWidth i 4) && isSection s (lockRow t i j)
 
 -- the numbers of place j of task i, zeros where no global section stands there
 unfoldable pub placeRow : System → List ℕ → ℕ → ℕ → Row
-placeRow s t i j = if isSection s t i j then answerRow (waitAnswer s (taskRow t i) (lockRow t i j)) else threeOf 0 0 0
+placeRow s t i j = if sectionAt s t i j then answerRow (waitAnswer s (taskRow t i) (lockRow t i j)) else threeOf 0 0 0
 
 abbrev pub placeAt : System → List ℕ → ℕ → Row
 placeAt s t k = placeRow s t (k / 8) (k % 8)

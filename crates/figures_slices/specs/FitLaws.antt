@@ -1,17 +1,17 @@
 -- Tables that pass the test for 9 are fit for the figures' code, and the system in them is the plan's.
 use Prim.Native.Nat.{ℕ, _<_}
-use mathlib.Core.Path.{_≡_}
-use mathlib.Core.Bool.{true}
+use mathlib.Core.Path.{_≡_, ap, sym, _∙_}
+use mathlib.Core.Bool.{Bool, true, false}
 use Rattle.laws.specs.Rows.{rows}
 use Rattle.plan.specs.Lookup.{hasVcpu}
 use Rattle.plan.specs.LookupLaws.{of-has}
 use Rattle.plan.specs.Valid.{Valid}
 use Rattle.plan_tables.specs.declared.PlanRecord.{PlanRecord}
 use Rattle.plan_tables.specs.Layout.{Tables, vcpuRow, taskRow}
-use Rattle.plan_tables.specs.Given.{planIn, isGiven}
-use Rattle.plan_tables.specs.GivenLaws.{given-plan, row-valid, tasks-in}
+use Rattle.plan_tables.specs.Given.{planIn, isGiven, ifGiven}
+use Rattle.plan_tables.specs.GivenLaws.{given-plan, row-valid, tasks-in, if-given, if-foreign}
 use Rattle.plan_tables.specs.Sound.{given-sound}
-use Rattle.figures.specs.System.{system}
+use Rattle.figures.specs.System.{System, system}
 use Rattle.figures.specs.Tabled.{systemIn, Fit}
 
 module _ (r : PlanRecord) (t : Tables) where
@@ -44,3 +44,11 @@ module _ (r : PlanRecord) (t : Tables) where
   pub system-in : system (planIn r t) ≡ systemIn r (t .vcpus) (t .mutexes) (t .tasks)
   unfolding planIn systemIn
   system-in = rw (tasks-in r t)
+
+-- 9 FIRST, where b is what the test for 9 said: what is worked out of the system in the tables is what is asked of the plan in them
+module _ {A : Type 0} (r : PlanRecord) (t : Tables) (f : System → A) (no : A) {b : Bool} (e : b ≡ isGiven r t) where
+  pub given-asked : {a : A} → b ≡ true → a ≡ f (systemIn r (t .vcpus) (t .mutexes) (t .tasks)) → a ≡ ifGiven r t (λ p. f (system p)) no
+  given-asked h k = k ∙ ap f (sym (system-in r t)) ∙ sym (if-given r t (λ p. f (system p)) no (sym e ∙ h))
+
+  pub foreign-asked : b ≡ false → no ≡ ifGiven r t (λ p. f (system p)) no
+  foreign-asked h = sym (if-foreign r t (λ p. f (system p)) no (sym e ∙ h))

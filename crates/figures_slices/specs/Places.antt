@@ -18,28 +18,17 @@ use Rattle.search.specs.declared.Answer.the-variants.{Fits, Late}
 use Rattle.search.specs.Search.{window, Smallest, solve}
 use Rattle.search.specs.SearchLaws.{solve-right}
 use Rattle.search.specs.Row.{rowIn}
-use Rattle.plan.specs.Plan.{Lock, Task}
+use Rattle.plan.specs.declared.Lock.{Lock}
+use Rattle.plan.specs.Plan.{Task}
 use Rattle.plan.specs.Lookup.{global}
-use Rattle.plan_tables.specs.Layout.{cell, zeros, over, vcpuRow, lockRow, taskRow}
+use Rattle.plan_tables.specs.Layout.{cell, zeros, over, vcpuRow, lockRow, taskRow, taskWidth}
 use Rattle.figures.specs.System.{System}
-use Rattle.figures.specs.Figures.{waitStart, waitDemand}
+use Rattle.figures.specs.Figures.{waitStart, waitDemand, isSection}
 use Rattle.figures.specs.Demands.{wait-demand}
-use Rattle.figures.specs.declared.TaskAnswer.{TaskAnswer}
-use Rattle.figures.specs.declared.TaskAnswer.the-variants.{Searched, NoWait, Held}
 use Rattle.figures.specs.Answers.{vcpuAnswer, waitAnswer, taskAnswer, ticksOf, isLate}
 use Rattle.figures_slices.specs.Store.{answerCells, taskAnswerCells, waitCells, placeCells, vcpuAnswers, waitAnswers, taskAnswers}
-use Rattle.figures_slices.specs.Filled.{rowCells, threeOf, answerRow, taskAnswerRow, isSection, placeRow, placeAt, Filled, Places}
+use Rattle.figures_slices.specs.Filled.{rowCells, threeOf, answerRow, taskAnswerRow, sectionAt, placeRow, placeAt, Filled, Places}
 use Rattle.figures_slices.specs.FilledLaws.{filled-all}
-
--- THE CELLS OF AN ANSWER
-pub answer-cells : (a : Answer) → answerCells a ≡ rowCells (answerRow a)
-answer-cells (Fits w n) = refl
-answer-cells (Late n) = refl
-
-pub task-answer-cells : (a : TaskAnswer) → taskAnswerCells a ≡ rowCells (taskAnswerRow a)
-task-answer-cells (Searched a) = answer-cells a
-task-answer-cells NoWait = refl
-task-answer-cells Held = refl
 
 -- ROWS BY THEIR NUMBER
 abbrev pub flatBelow : {B : Type 0} → ℕ → (ℕ → List B) → List B
@@ -91,34 +80,34 @@ zero-cells (suc d) =
 -- THE PLACES OF A TASK
 choice-cells : (b : Bool) (a : Answer) → rowCells (if b then answerRow a else threeOf 0 0 0) ≡ (if b then answerCells a else zeros 3)
 unfolding zeros
-choice-cells true a = sym (answer-cells a)
+choice-cells true a = refl
 choice-cells false a = refl
 
 module _ (s : System) (t : List ℕ) (i j : ℕ) where
-  place-in : j < cell t 29 i 4
-      → placeRow s t i j ≡ (if global (s .mutexes) (lockRow t i j .m) then answerRow (waitAnswer s (taskRow t i) (lockRow t i j)) else threeOf 0 0 0)
-  unfolding placeRow isSection
-  place-in l = rw (lt-ltb j (cell t 29 i 4) l)
+  place-in : j < cell t taskWidth i 4
+      → placeRow s t i j ≡ (if isSection s (lockRow t i j) then answerRow (waitAnswer s (taskRow t i) (lockRow t i j)) else threeOf 0 0 0)
+  unfolding placeRow sectionAt
+  place-in l = rw (lt-ltb j (cell t taskWidth i 4) l)
 
-  place-out : cell t 29 i 4 ≤ j → placeRow s t i j ≡ threeOf 0 0 0
-  unfolding placeRow isSection
-  place-out l = rw (le-ltb j (cell t 29 i 4) l)
+  place-out : cell t taskWidth i 4 ≤ j → placeRow s t i j ≡ threeOf 0 0 0
+  unfolding placeRow sectionAt
+  place-out l = rw (le-ltb j (cell t taskWidth i 4) l)
 
-place-cells : (s : System) (t : List ℕ) (i : ℕ) → cell t 29 i 4 ≤ 8 → flatBelow 8 (λ j. rowCells (placeRow s t i j)) ≡ placeCells s (taskRow t i)
+place-cells : (s : System) (t : List ℕ) (i : ℕ) → cell t taskWidth i 4 ≤ 8 → flatBelow 8 (λ j. rowCells (placeRow s t i j)) ≡ placeCells s (taskRow t i)
 unfolding placeCells taskRow
 place-cells s t i h =
-    let c = cell t 29 i 4 in
+    let c = cell t taskWidth i 4 in
     let k = taskRow t i in
     ap (λ m. flatBelow m (λ j. rowCells (placeRow s t i j))) {x = 8} {y = c + (8 - c)} (omega arith)
     ∙ to-add c (8 - c) (λ j. rowCells (placeRow s t i j))
     ∙ ap₂ _++_
-    (to-same c _ _ (λ j l. ap rowCells (place-in s t i j l) ∙ choice-cells (global (s .mutexes) (lockRow t i j .m)) (waitAnswer s k (lockRow t i j)))
+    (to-same c _ _ (λ j l. ap rowCells (place-in s t i j l) ∙ choice-cells (isSection s (lockRow t i j)) (waitAnswer s k (lockRow t i j)))
     ∙ sym (to-rows (waitCells s k) (lockRow t i) c))
     (to-same (8 - c) _ _ (λ j l. ap rowCells (place-out s t i (c + j) (omega arith)))
     ∙ zero-cells (8 - c)
     ∙ ap (λ m. zeros ((8 - m) * 3)) (sym (rows-length c (lockRow t i))))
 
-waits-are : (s : System) (t : List ℕ) (n : ℕ) → ((i : ℕ) → i < n → cell t 29 i 4 ≤ 8)
+waits-are : (s : System) (t : List ℕ) (n : ℕ) → ((i : ℕ) → i < n → cell t taskWidth i 4 ≤ 8)
     → flatBelow (n * 8) (λ k. rowCells (placeAt s t k)) ≡ flat (placeCells s) (rows n (taskRow t))
 unfolding rows flat
 waits-are s t zero h = refl
@@ -141,18 +130,18 @@ unfolding waitAnswer
 wait-is s k x e f g = rw (e, f, g)
 
 -- lock j of task i is a global section or not, as b says
-pub place-section : {b : Bool} (s : System) (t : List ℕ) (i j : ℕ) → b ≡ isSection s t i j → b ≡ true
+pub place-section : {b : Bool} (s : System) (t : List ℕ) (i j : ℕ) → b ≡ sectionAt s t i j → b ≡ true
     → answerRow (waitAnswer s (taskRow t i) (lockRow t i j)) ≡ placeRow s t i j
 unfolding placeRow
 place-section s t i j e f = rw (← e, f)
 
-pub place-none : {b : Bool} (s : System) (t : List ℕ) (i j : ℕ) → b ≡ isSection s t i j → b ≡ false → threeOf 0 0 0 ≡ placeRow s t i j
+pub place-none : {b : Bool} (s : System) (t : List ℕ) (i j : ℕ) → b ≡ sectionAt s t i j → b ≡ false → threeOf 0 0 0 ≡ placeRow s t i j
 unfolding placeRow
 place-none s t i j e f = rw (← e, f)
 
-pub section-global : {b : Bool} (s : System) (t : List ℕ) (i j : ℕ) → b ≡ isSection s t i j → b ≡ true → global (s .mutexes) (lockRow t i j .m) ≡ true
-unfolding isSection
-section-global s t i j e f = both-right (ltb j (cell t 29 i 4)) (global (s .mutexes) (lockRow t i j .m)) (sym e ∙ f)
+pub section-global : {b : Bool} (s : System) (t : List ℕ) (i j : ℕ) → b ≡ sectionAt s t i j → b ≡ true → isSection s (lockRow t i j) ≡ true
+unfolding sectionAt
+section-global s t i j e f = both-right (ltb j (cell t taskWidth i 4)) (isSection s (lockRow t i j)) (sym e ∙ f)
 
 -- waits of one task on one mutex have the same answer
 wait-same : (s : System) (k : Task) (x y : Lock) → x .m ≡ y .m → waitAnswer s k x ≡ waitAnswer s k y
@@ -165,11 +154,11 @@ place-of s t i e l =
     let b : (i * 8 + e) % 8 ≡ e = omega arith in
     ap₂ (placeRow s t) a b
 
-pub same-place : {b : Bool} (s : System) (t : List ℕ) (i j e : ℕ) → b ≡ isSection s t i j → b ≡ true → e ≤ j → j < 8 → lockRow t i e .m ≡ lockRow t i j .m
+pub same-place : {b : Bool} (s : System) (t : List ℕ) (i j e : ℕ) → b ≡ sectionAt s t i j → b ≡ true → e ≤ j → j < 8 → lockRow t i e .m ≡ lockRow t i j .m
     → placeAt s t (i * 8 + e) ≡ placeRow s t i j
-unfolding isSection
+unfolding sectionAt
 same-place s t i j e d f l h q =
-    let c : j < cell t 29 i 4 = ltb-true _ _ (both-left (ltb j (cell t 29 i 4)) (global (s .mutexes) (lockRow t i j .m)) (sym d ∙ f)) in
+    let c : j < cell t taskWidth i 4 = ltb-true _ _ (both-left (ltb j (cell t taskWidth i 4)) (isSection s (lockRow t i j)) (sym d ∙ f)) in
     place-of s t i e (omega arith)
     ∙ place-in s t i e (omega arith)
     ∙ ap₂ (λ m a. if global (s .mutexes) m then answerRow a else threeOf 0 0 0) q (wait-same s (taskRow t i) (lockRow t i e) (lockRow t i j) q)
@@ -180,17 +169,17 @@ pub vcpus-over : {xs xs₀ : List ℕ} {n i : ℕ} (s : System) (vt : List ℕ) 
     → Filled (λ x. answerRow (vcpuAnswer s x)) (vcpuRow vt) xs₀ n xs i → n ≤ i → xs ≡ over (vcpuAnswers s) xs₀
 unfolding vcpuAnswers
 vcpus-over {xs₀} s vt e h l =
-    filled-all (λ x. answerCells (vcpuAnswer s x)) h l (λ x. answer-cells (vcpuAnswer s x))
+    filled-all (λ x. answerCells (vcpuAnswer s x)) h l (λ x. refl)
     ∙ ap (λ ys. over (flat (λ x. answerCells (vcpuAnswer s x)) ys) xs₀) (sym e)
 
 pub tasks-over : {xs xs₀ : List ℕ} {n i : ℕ} (s : System) (ts : List ℕ) → s .tasks ≡ rows n (taskRow ts)
     → Filled (λ x. taskAnswerRow (taskAnswer s x)) (taskRow ts) xs₀ n xs i → n ≤ i → xs ≡ over (taskAnswers s) xs₀
 unfolding taskAnswers
 tasks-over {xs₀} s ts e h l =
-    filled-all (λ x. taskAnswerCells (taskAnswer s x)) h l (λ x. task-answer-cells (taskAnswer s x))
+    filled-all (λ x. taskAnswerCells (taskAnswer s x)) h l (λ x. refl)
     ∙ ap (λ ys. over (flat (λ x. taskAnswerCells (taskAnswer s x)) ys) xs₀) (sym e)
 
-pub waits-over : {xs xs₀ : List ℕ} {i : ℕ} (s : System) (ts : List ℕ) (n : ℕ) → s .tasks ≡ rows n (taskRow ts) → ((k : ℕ) → k < n → cell ts 29 k 4 ≤ 8)
+pub waits-over : {xs xs₀ : List ℕ} {i : ℕ} (s : System) (ts : List ℕ) (n : ℕ) → s .tasks ≡ rows n (taskRow ts) → ((k : ℕ) → k < n → cell ts taskWidth k 4 ≤ 8)
     → Filled (placeAt s ts) (λ k. k) xs₀ (n * 8) xs i → n * 8 ≤ i → xs ≡ over (waitAnswers s) xs₀
 unfolding waitAnswers
 waits-over {xs₀} s ts n e c h l =
@@ -224,29 +213,29 @@ choice-late true (Fits w n) = refl
 choice-late true (Late n) = refl
 choice-late false a = refl
 
-module _ {s : System} {t : List ℕ} {n : ℕ} {wa : List ℕ} (h : Places s t n wa) (i j : ℕ) (l : i * 8 + j < n) (c : j < cell t 29 i 4) (e : j < 8) where
+module _ {s : System} {t : List ℕ} {n : ℕ} {wa : List ℕ} (h : Places s t n wa) (i j : ℕ) (l : i * 8 + j < n) (c : j < cell t taskWidth i 4) (e : j < 8) where
   place-read : rowIn wa (i * 8 + j)
-      ≡ (if global (s .mutexes) (lockRow t i j .m) then answerRow (waitAnswer s (taskRow t i) (lockRow t i j)) else threeOf 0 0 0)
+      ≡ (if isSection s (lockRow t i j) then answerRow (waitAnswer s (taskRow t i) (lockRow t i j)) else threeOf 0 0 0)
   place-read = h .at (i * 8 + j) l ∙ place-of s t i j e ∙ place-in s t i j c
 
   pub ticks-read : taskRow t i .period ≤ 1000000
-      → Is (getD wa ((i * 8 + j) * 3 + 1) 0) (when (global (s .mutexes) (lockRow t i j .m)) (ticksOf (waitAnswer s (taskRow t i) (lockRow t i j)))) 1000000
+      → Is (getD wa ((i * 8 + j) * 3 + 1) 0) (when (isSection s (lockRow t i j)) (ticksOf (waitAnswer s (taskRow t i) (lockRow t i j)))) 1000000
   unfolding rowIn
   ticks-read p =
-      let g = global (s .mutexes) (lockRow t i j .m) in
+      let g = isSection s (lockRow t i j) in
       let a = waitAnswer s (taskRow t i) (lockRow t i j) in
       let q : getD wa ((i * 8 + j) * 3 + 1) 0 ≡ when g (ticksOf a) = ap (λ r. r .period) place-read ∙ choice-ticks g a in
       let z : when g (ticksOf a) ≤ taskRow t i .period = when-small g (wait-small s (taskRow t i) (lockRow t i j)) in
       record { is = q; small = omega arith }
 
-  pub late-read : {b : Bool} {x : ℕ} → b ≡ global (s .mutexes) (lockRow t i j .m) → x ≡ getD wa ((i * 8 + j) * 3) 0
-      → (b && eqb x 0) ≡ (global (s .mutexes) (lockRow t i j .m) && isLate (waitAnswer s (taskRow t i) (lockRow t i j)))
+  pub late-read : {b : Bool} {x : ℕ} → b ≡ isSection s (lockRow t i j) → x ≡ getD wa ((i * 8 + j) * 3) 0
+      → (b && eqb x 0) ≡ (isSection s (lockRow t i j) && isLate (waitAnswer s (taskRow t i) (lockRow t i j)))
   unfolding rowIn
   late-read d f =
       ap₂ (λ y z. y && eqb z 0) d (f ∙ ap (λ r. r .shift) place-read)
-      ∙ choice-late (global (s .mutexes) (lockRow t i j .m)) (waitAnswer s (taskRow t i) (lockRow t i j))
+      ∙ choice-late (isSection s (lockRow t i j)) (waitAnswer s (taskRow t i) (lockRow t i j))
 
 -- what is found over the first n locks of task i, which has n
-pub found-locks : {b : Bool} {n : ℕ} (t : List ℕ) (i : ℕ) (g : List Lock → Bool) → n ≡ cell t 29 i 4 → b ≡ g (rows n (lockRow t i)) → b ≡ g (taskRow t i .locks)
+pub found-locks : {b : Bool} {n : ℕ} (t : List ℕ) (i : ℕ) (g : List Lock → Bool) → n ≡ cell t taskWidth i 4 → b ≡ g (rows n (lockRow t i)) → b ≡ g (taskRow t i .locks)
 unfolding taskRow
 found-locks t i g e h = rw e at h

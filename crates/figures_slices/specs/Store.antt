@@ -5,28 +5,26 @@ use lib.ListN.{length}
 use Rattle.laws.specs.Choice.{if_then_else_}
 use Rattle.laws.specs.Sums.{flat}
 use Rattle.search.specs.declared.Answer.{Answer}
-use Rattle.search.specs.declared.Answer.the-variants.{Fits, Late}
+use Rattle.search.specs.Search.{rounds}
 use Rattle.plan.specs.Limits.{maxLocks}
-use Rattle.plan.specs.Plan.{Lock, Task}
-use Rattle.plan.specs.Lookup.{global}
+use Rattle.plan.specs.declared.Lock.{Lock}
+use Rattle.plan.specs.Plan.{Task}
 use Rattle.plan_tables.specs.Layout.{zeros}
 use Rattle.figures.specs.System.{System}
 use Rattle.figures.specs.declared.TaskAnswer.{TaskAnswer}
-use Rattle.figures.specs.declared.TaskAnswer.the-variants.{Searched, NoWait, Held}
-use Rattle.figures.specs.Answers.{vcpuAnswer, waitAnswer, taskAnswer}
+use Rattle.figures.specs.Answers.{vcpuAnswer, waitAnswer, taskAnswer, ticksOf}
+use Rattle.figures.specs.Figures.{isSection}
+use Rattle.figures.specs.Kinds.{answerKind, taskKind, taskTicks, taskRounds}
 
--- the numbers of an answer: what it is (0 late, 1 fits, 2 nowait, 3 held), w (0 where it is lacking), rounds
+-- the numbers of an answer: its kind, its ticks, its rounds
 abbrev pub answerWidth : ℕ
 answerWidth = 3
 
 abbrev pub answerCells : Answer → List ℕ
-answerCells (Late n) = 0 ∷ 0 ∷ n ∷ []
-answerCells (Fits w n) = 1 ∷ w ∷ n ∷ []
+answerCells a = answerKind a ∷ ticksOf a ∷ rounds a ∷ []
 
 abbrev pub taskAnswerCells : TaskAnswer → List ℕ
-taskAnswerCells (Searched a) = answerCells a
-taskAnswerCells NoWait = 2 ∷ 0 ∷ 0 ∷ []
-taskAnswerCells Held = 3 ∷ 0 ∷ 0 ∷ []
+taskAnswerCells a = taskKind a ∷ taskTicks a ∷ taskRounds a ∷ []
 
 -- the VCPUs' answers, in the order of the table
 unfoldable pub vcpuAnswers : System → List ℕ
@@ -34,7 +32,7 @@ vcpuAnswers s = flat (λ x. answerCells (vcpuAnswer s x)) (s .vcpus)
 
 -- the waits of a task: one answer for each lock place, zeros where the lock is local or there is none
 abbrev pub waitCells : System → Task → Lock → List ℕ
-waitCells s k l = if global (s .mutexes) (l .m) then answerCells (waitAnswer s k l) else zeros answerWidth
+waitCells s k l = if isSection s l then answerCells (waitAnswer s k l) else zeros answerWidth
 
 unfoldable pub placeCells : System → Task → List ℕ
 placeCells s k = flat (waitCells s k) (k .locks) ++ zeros ((maxLocks - length (k .locks)) * answerWidth)

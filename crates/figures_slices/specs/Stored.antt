@@ -1,8 +1,6 @@
 -- What it means that a plan's figures are stored in lent slices: the only place that knows where each stands.
 use Prim.Native.Nat.{ℕ, _+_, _*_, _/_, _%_, _≤_, _<_}
-use mathlib.Core.Bool.{_&&_}
 use mathlib.Core.List.{List}
-use lib.Dec.{ltb}
 use lib.ListN.{length, getD}
 use Rattle.laws.specs.Choice.{when}
 use Rattle.laws.specs.Sums.{up}
@@ -12,47 +10,46 @@ use Rattle.plan.specs.declared.Policy.the-variants.{Periodic, Deferrable}
 use Rattle.plan.specs.declared.OverrunChoice.{OverrunChoice}
 use Rattle.plan.specs.declared.OverrunChoice.the-variants.{WithOverrun, WithoutOverrun}
 use Rattle.plan.specs.Plan.{Vcpu, Task}
-use Rattle.plan.specs.Lookup.{global}
 use Rattle.plan_tables.specs.declared.PlanRecord.{PlanRecord}
-use Rattle.plan_tables.specs.Layout.{cell, vcpuRow, lockRow, taskRow}
+use Rattle.plan_tables.specs.Layout.{vcpuRow, lockRow, taskRow}
 use Rattle.figures.specs.System.{System}
 use Rattle.figures.specs.Tabled.{systemIn}
 use Rattle.figures.specs.Figures.{longestGlobal, globalSum, globalCount, lengths, localBlocking, ght, vcpuStart, preemption, response}
+use Rattle.figures_slices.specs.Filled.{sectionAt}
 
 -- xs has f i, which is at most b, at the place of each i below n
-pub record Held (place : ℕ → ℕ) (b n : ℕ) (f : ℕ → ℕ) (xs : List ℕ) : Type 0 where
+pub record ValuesAt (place : ℕ → ℕ) (b n : ℕ) (f : ℕ → ℕ) (xs : List ℕ) : Type 0 where
   pub at : (i : ℕ) → i < n → Is (getD xs (place i) 0) (f i) b
 
 -- TASKS, five numbers each: the longest global section, the sum and the number of global sections, the lengths; and the local blocking
 pub record TaskFigures (s : System) (row : ℕ → Task) (n : ℕ) (tf : List ℕ) : Type 0 where
   pub room : n * 5 ≤ length tf
-  pub longest : Held (λ i. i * 5) 1000000 n (λ i. longestGlobal s (row i)) tf
-  pub sums : Held (λ i. i * 5 + 1) 8000000 n (λ i. globalSum s (row i)) tf
-  pub counts : Held (λ i. i * 5 + 2) 8 n (λ i. globalCount s (row i)) tf
-  pub spans : Held (λ i. i * 5 + 3) 17000000 n (λ i. lengths (row i)) tf
+  pub longest : ValuesAt (λ i. i * 5) 1000000 n (λ i. longestGlobal s (row i)) tf
+  pub sums : ValuesAt (λ i. i * 5 + 1) 8000000 n (λ i. globalSum s (row i)) tf
+  pub counts : ValuesAt (λ i. i * 5 + 2) 8 n (λ i. globalCount s (row i)) tf
+  pub spans : ValuesAt (λ i. i * 5 + 3) 17000000 n (λ i. lengths (row i)) tf
 
 abbrev pub Blockings : System → (ℕ → Task) → ℕ → List ℕ → Type 0
-Blockings s row n tf = Held (λ i. i * 5 + 4) 585000000 n (λ i. localBlocking s (row i)) tf
+Blockings s row n tf = ValuesAt (λ i. i * 5 + 4) 585000000 n (λ i. localBlocking s (row i)) tf
 
 -- VCPUS, three numbers each: ght, and budget with overrun; and the preemption
 pub record VcpuFigures (s : System) (row : ℕ → Vcpu) (n : ℕ) (vf : List ℕ) : Type 0 where
   pub room : 48 ≤ length vf
-  pub ghts : Held (λ a. a * 3) 64000000 n (λ a. ght s (row a .v)) vf
-  pub starts : Held (λ a. a * 3 + 1) 65000000 n (λ a. vcpuStart s (row a)) vf
+  pub ghts : ValuesAt (λ a. a * 3) 64000000 n (λ a. ght s (row a .v)) vf
+  pub starts : ValuesAt (λ a. a * 3 + 1) 65000000 n (λ a. vcpuStart s (row a)) vf
 
 abbrev pub Preemptions : System → (ℕ → Vcpu) → ℕ → List ℕ → Type 0
-Preemptions s row n vf = Held (λ a. a * 3 + 2) 1024000000 n (λ a. preemption s (row a)) vf
+Preemptions s row n vf = ValuesAt (λ a. a * 3 + 2) 1024000000 n (λ a. preemption s (row a)) vf
 
 -- SECTIONS: the response of lock j of task i at i * 8 + j, 0 where there is no such global section
 unfoldable pub sectionResponse : System → List ℕ → ℕ → ℕ → ℕ
-sectionResponse s t i j =
-    when (ltb j (cell t 29 i 4) && global (s .mutexes) (lockRow t i j .m)) (response s (taskRow t i) (lockRow t i j))
+sectionResponse s t i j = when (sectionAt s t i j) (response s (taskRow t i) (lockRow t i j))
 
 abbrev pub maxResponse : ℕ
 maxResponse = 65001089000000
 
 abbrev pub Responses : System → List ℕ → ℕ → List ℕ → Type 0
-Responses s t n rf = Held (λ k. k) maxResponse n (λ k. sectionResponse s t (k / 8) (k % 8)) rf
+Responses s t n rf = ValuesAt (λ k. k) maxResponse n (λ k. sectionResponse s t (k / 8) (k % 8)) rf
 
 -- THE FIGURES OF THE PLAN IN THE TABLES, kind by kind and all
 abbrev pub TasksIn : PlanRecord → List ℕ → List ℕ → List ℕ → List ℕ → Type 0

@@ -12,22 +12,23 @@ use Rattle.plan.specs.declared.Policy.{Policy}
 use Rattle.plan.specs.declared.Policy.the-variants.{Periodic, Deferrable}
 use Rattle.plan.specs.declared.OverrunChoice.{OverrunChoice}
 use Rattle.plan.specs.declared.OverrunChoice.the-variants.{WithOverrun, WithoutOverrun}
-use Rattle.plan.specs.Plan.{Vcpu, Lock, Task}
+use Rattle.plan.specs.declared.Lock.{Lock}
+use Rattle.plan.specs.Plan.{Vcpu, Task}
 use Rattle.figures.specs.System.{System}
 use Rattle.figures.specs.Figures.{longestGlobal, globalSum, globalCount, lengths, vcpuAt, ght, overrunBy, overrunOf, vcpuStart, gap, load, preemption, responseBy, response}
 use Rattle.figures.specs.PartLaws.{is-then}
-use Rattle.figures_slices.specs.Stored.{Held, TaskFigures, VcpuFigures, Responses, maxResponse, sectionResponse, responseFor}
+use Rattle.figures_slices.specs.Stored.{ValuesAt, TaskFigures, VcpuFigures, Responses, maxResponse, sectionResponse, responseFor}
 
 -- STORES
 module _ {place : ℕ → ℕ} {b : ℕ} {f : ℕ → ℕ} {xs : List ℕ} where
-  pub held-none : Held place b 0 f xs
-  held-none = record { at = λ i l. absurd (omega arith) }
+  pub values-none : ValuesAt place b 0 f xs
+  values-none = record { at = λ i l. absurd (omega arith) }
 
   -- what holds below i, and the store at i's place, give it below i + 1
-  pub held-more :
-      {x : ℕ} (i : ℕ) → Held place b i f xs → ((j : ℕ) → j < i → place j ≡ place i → ⊥) → place i < length xs → Is x (f i) b →
-      Held place b (i + 1) f (set xs (place i) x)
-  held-more {x} i h d l e =
+  pub values-more :
+      {x : ℕ} (i : ℕ) → ValuesAt place b i f xs → ((j : ℕ) → j < i → place j ≡ place i → ⊥) → place i < length xs → Is x (f i) b →
+      ValuesAt place b (i + 1) f (set xs (place i) x)
+  values-more {x} i h d l e =
       record {
         at =
             below-more _ _ (λ j m. rw (getD-set-other xs (place i) (place j) x 0 (d j m)) (h .at j m))
@@ -35,16 +36,16 @@ module _ {place : ℕ → ℕ} {b : ℕ} {f : ℕ → ℕ} {xs : List ℕ} where
       }
 
   -- a store elsewhere
-  pub held-keep : {n : ℕ} (k x : ℕ) → Held place b n f xs → ((j : ℕ) → j < n → place j ≡ k → ⊥) → Held place b n f (set xs k x)
-  held-keep k x h d = record { at = λ j m. rw (getD-set-other xs k (place j) x 0 (d j m)) (h .at j m) }
+  pub values-keep : {n : ℕ} (k x : ℕ) → ValuesAt place b n f xs → ((j : ℕ) → j < n → place j ≡ k → ⊥) → ValuesAt place b n f (set xs k x)
+  values-keep k x h d = record { at = λ j m. rw (getD-set-other xs k (place j) x 0 (d j m)) (h .at j m) }
 
   -- after the last
-  pub held-all : {n i : ℕ} → Held place b i f xs → n ≤ i → Held place b n f xs
-  held-all h l = record { at = λ j m. h .at j (omega arith) }
+  pub values-all : {n i : ℕ} → ValuesAt place b i f xs → n ≤ i → ValuesAt place b n f xs
+  values-all h l = record { at = λ j m. h .at j (omega arith) }
 
 module _ {s : System} {row : ℕ → Task} {tf : List ℕ} where
   pub tasks-none : TaskFigures s row 0 tf
-  tasks-none = record { room = omega arith; longest = held-none; sums = held-none; counts = held-none; spans = held-none }
+  tasks-none = record { room = omega arith; longest = values-none; sums = values-none; counts = values-none; spans = values-none }
 
   -- the four stores of row i
   pub tasks-more :
@@ -55,19 +56,19 @@ module _ {s : System} {row : ℕ → Task} {tf : List ℕ} where
       record {
         room = simp length-set (omega arith);
         longest =
-            held-keep (i * 5 + 3) w
-            (held-keep (i * 5 + 2) z (held-keep (i * 5 + 1) y (held-more i (h .longest) (λ j m. omega arith) (omega arith) a) (λ j m. omega arith)) (λ j m. omega arith))
+            values-keep (i * 5 + 3) w
+            (values-keep (i * 5 + 2) z (values-keep (i * 5 + 1) y (values-more i (h .longest) (λ j m. omega arith) (omega arith) a) (λ j m. omega arith)) (λ j m. omega arith))
             (λ j m. omega arith);
         sums =
-            held-keep (i * 5 + 3) w
-            (held-keep (i * 5 + 2) z (held-more i (held-keep (i * 5) x (h .sums) (λ j m. omega arith)) (λ j m. omega arith) (simp length-set (omega arith)) b) (λ j m. omega arith))
+            values-keep (i * 5 + 3) w
+            (values-keep (i * 5 + 2) z (values-more i (values-keep (i * 5) x (h .sums) (λ j m. omega arith)) (λ j m. omega arith) (simp length-set (omega arith)) b) (λ j m. omega arith))
             (λ j m. omega arith);
         counts =
-            held-keep (i * 5 + 3) w
-            (held-more i (held-keep (i * 5 + 1) y (held-keep (i * 5) x (h .counts) (λ j m. omega arith)) (λ j m. omega arith)) (λ j m. omega arith) (simp length-set (omega arith)) c)
+            values-keep (i * 5 + 3) w
+            (values-more i (values-keep (i * 5 + 1) y (values-keep (i * 5) x (h .counts) (λ j m. omega arith)) (λ j m. omega arith)) (λ j m. omega arith) (simp length-set (omega arith)) c)
             (λ j m. omega arith);
         spans =
-            held-more i (held-keep (i * 5 + 2) z (held-keep (i * 5 + 1) y (held-keep (i * 5) x (h .spans) (λ j m. omega arith)) (λ j m. omega arith)) (λ j m. omega arith))
+            values-more i (values-keep (i * 5 + 2) z (values-keep (i * 5 + 1) y (values-keep (i * 5) x (h .spans) (λ j m. omega arith)) (λ j m. omega arith)) (λ j m. omega arith))
             (λ j m. omega arith) (simp length-set (omega arith)) d;
       }
 
@@ -76,25 +77,25 @@ module _ {s : System} {row : ℕ → Task} {tf : List ℕ} where
   tasks-keep i x h =
       record {
         room = simp length-set (h .room);
-        longest = held-keep (i * 5 + 4) x (h .longest) (λ j m. omega arith);
-        sums = held-keep (i * 5 + 4) x (h .sums) (λ j m. omega arith);
-        counts = held-keep (i * 5 + 4) x (h .counts) (λ j m. omega arith);
-        spans = held-keep (i * 5 + 4) x (h .spans) (λ j m. omega arith);
+        longest = values-keep (i * 5 + 4) x (h .longest) (λ j m. omega arith);
+        sums = values-keep (i * 5 + 4) x (h .sums) (λ j m. omega arith);
+        counts = values-keep (i * 5 + 4) x (h .counts) (λ j m. omega arith);
+        spans = values-keep (i * 5 + 4) x (h .spans) (λ j m. omega arith);
       }
 
   pub tasks-all : {n i : ℕ} → TaskFigures s row i tf → n ≤ i → TaskFigures s row n tf
   tasks-all h l =
       record {
         room = omega arith;
-        longest = held-all (h .longest) l;
-        sums = held-all (h .sums) l;
-        counts = held-all (h .counts) l;
-        spans = held-all (h .spans) l;
+        longest = values-all (h .longest) l;
+        sums = values-all (h .sums) l;
+        counts = values-all (h .counts) l;
+        spans = values-all (h .spans) l;
       }
 
 module _ {s : System} {row : ℕ → Vcpu} {vf : List ℕ} where
   pub vcpus-none : 48 ≤ length vf → VcpuFigures s row 0 vf
-  vcpus-none h = record { room = h; ghts = held-none; starts = held-none }
+  vcpus-none h = record { room = h; ghts = values-none; starts = values-none }
 
   -- the two stores of row a
   pub vcpus-more :
@@ -103,8 +104,8 @@ module _ {s : System} {row : ℕ → Vcpu} {vf : List ℕ} where
   vcpus-more {x} {y} a h l d e =
       record {
         room = simp length-set (h .room);
-        ghts = held-keep (a * 3 + 1) y (held-more a (h .ghts) (λ j m. omega arith) (omega arith) d) (λ j m. omega arith);
-        starts = held-more a (held-keep (a * 3) x (h .starts) (λ j m. omega arith)) (λ j m. omega arith) (simp length-set (omega arith)) e;
+        ghts = values-keep (a * 3 + 1) y (values-more a (h .ghts) (λ j m. omega arith) (omega arith) d) (λ j m. omega arith);
+        starts = values-more a (values-keep (a * 3) x (h .starts) (λ j m. omega arith)) (λ j m. omega arith) (simp length-set (omega arith)) e;
       }
 
   -- the column of preemptions is another
@@ -112,12 +113,12 @@ module _ {s : System} {row : ℕ → Vcpu} {vf : List ℕ} where
   vcpus-keep a x h =
       record {
         room = simp length-set (h .room);
-        ghts = held-keep (a * 3 + 2) x (h .ghts) (λ j m. omega arith);
-        starts = held-keep (a * 3 + 2) x (h .starts) (λ j m. omega arith);
+        ghts = values-keep (a * 3 + 2) x (h .ghts) (λ j m. omega arith);
+        starts = values-keep (a * 3 + 2) x (h .starts) (λ j m. omega arith);
       }
 
   pub vcpus-all : {n a : ℕ} → VcpuFigures s row a vf → n ≤ a → VcpuFigures s row n vf
-  vcpus-all h l = record { room = h .room; ghts = held-all (h .ghts) l; starts = held-all (h .starts) l }
+  vcpus-all h l = record { room = h .room; ghts = values-all (h .ghts) l; starts = values-all (h .starts) l }
 
 -- the response of lock j of task i
 pub response-at :

@@ -1,4 +1,4 @@
-// The figures of VCPUs, worked out once into lent slices. Where each stands is said in the checker's specs/Stored.
+// The figures of VCPUs, worked out once into lent slices. Where each stands is said in specs/Stored of `figures_slices`.
 use plan_tables::PlanRecord;
 ghost use mathlib.Core.Path.{_≡_};
 ghost use Prim.Native.Nat.{_+_, _*_, _<_, _≤_};

@@ -3,6 +3,7 @@ use mathlib.Core.Path.{_≡_, ap, ap₂, sym, _∙_}
 use mathlib.Core.Bool.{Bool, true, false, _&&_}
 use mathlib.Core.Logic.{_↔_}
 use mathlib.Core.List.{List, [], _∷_, _++_}
+use native.Mathlib.Omega.{arith}
 use Rattle.laws.specs.BoolLaws.{both-right, both-ways, both-exactly}
 use Rattle.laws.specs.Rows.{rows}
 use Rattle.plan.specs.Text.{itemsOf}
@@ -77,7 +78,7 @@ given-tests r t =
     let s = given-sound r t g in
     let h : Tested r t = tested-exactly r t .0 g in
     e .1 (
-      (h .room, record { vcpus = s .few-vcpus; mutexes = s .few-mutexes; opens = s .few-opens; tasks = s .few-tasks }),
+      (h .room, record { vcpus = s .few-vcpus; mutexes = s .few-mutexes; opens = s .few-opens; tasks = omega (arith, s .few-tasks) }),
       (tidy-all (t .tasks) (r .tasks) (λ i l. tidy-exactly (t .tasks) i .1 (row-few r t (h .valid) i l, h .zeros i l)), valid-passes (planIn r t) (h .valid)),
     ))
     (λ g.

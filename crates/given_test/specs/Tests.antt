@@ -9,7 +9,7 @@ use Rattle.judge_coded.specs.Coded.{coded, start}
 use Rattle.plan_tables.specs.Layout.{Tables, vcpuRow}
 use Rattle.plan_tables.specs.declared.PlanRecord.{PlanRecord}
 use Rattle.plan_tables.specs.Given.{clean}
-pub use Rattle.given_tidy.specs.Tests.{lent, mostRows, few, Few, allTidy}
+pub use Rattle.given_tidy.specs.Tests.{mostRows, few, Few, allTidy}
 use Rattle.given_test.specs.Feed.{lined, vcpuLines, mutexLines, openLines, taskLines}
 
 -- the first two lines

@@ -1,16 +1,9 @@
-// The test for 9: do tables hold what some accepted plan gives? (specs/Given of the tables; specs/Tests has its tests one by one.)
-use given_tidy::FIRST_LOCK;
-use given_tidy::LOCK_WIDTH;
-use given_tidy::MUTEX_WIDTH;
-use given_tidy::OPEN_WIDTH;
-use given_tidy::TASK_WIDTH;
-use given_tidy::VCPU_WIDTH;
+// The test for 9: do tables hold what some accepted plan gives? (specs/Given of `plan_tables`; specs/Tests has its tests one by one.)
 use given_tidy::all_tidy;
 use given_tidy::begins;
 use given_tidy::cell;
 use given_tidy::few;
 use given_tidy::host_of;
-use given_tidy::roomy;
 use judge_coded::Seen;
 use judge_faults::fault_of;
 use judge_seen::ready;
@@ -19,7 +12,13 @@ use judge_seen::start;
 use plan::Kind;
 use plan::OverrunChoice;
 use plan::Policy;
+use plan_tables::FIRST_LOCK;
+use plan_tables::LOCK_WIDTH;
+use plan_tables::MUTEX_WIDTH;
+use plan_tables::OPEN_WIDTH;
 use plan_tables::PlanRecord;
+use plan_tables::TASK_WIDTH;
+use plan_tables::VCPU_WIDTH;
 ghost use mathlib.Core.Path.{_≡_};
 ghost use mathlib.Core.Bool.{true};
 ghost use mathlib.Core.List.{[]};
@@ -262,7 +261,7 @@ fn fed_front(r: PlanRecord) -> Run
 // Has no item of the rows a fault after those before it?
 fn clean_rows(r: PlanRecord, vt: &[u64], mt: &[u64], ot: &[u64], ts: &[u64]) -> bool
     requires { ⌜ tests.Few r × (tests.allTidy (now ts) (r .tasks) ≡ true) ⌝ }
-    ensures { λ b. ⌜ b ≡ tests.cleanRows r (tests.lent (now (vt .entry)) (now (mt .entry)) (now (ot .entry)) (now (ts .entry))) ⌝ }
+    ensures { λ b. ⌜ b ≡ tests.cleanRows r (layout.lent (now (vt .entry)) (now (mt .entry)) (now (ot .entry)) (now (ts .entry))) ⌝ }
 {
     let n = r.vcpus;
     let front = fed_front(r);
@@ -277,7 +276,7 @@ fn clean_rows(r: PlanRecord, vt: &[u64], mt: &[u64], ot: &[u64], ts: &[u64]) -> 
 // Is every task's row as one of a plan, and has no item of the rows a fault?
 fn sound_rows(r: PlanRecord, vt: &[u64], mt: &[u64], ot: &[u64], ts: &[u64]) -> bool
     requires { ⌜ tests.Few r ⌝ }
-    ensures { λ b. ⌜ b ≡ tests.soundRows r (tests.lent (now (vt .entry)) (now (mt .entry)) (now (ot .entry)) (now (ts .entry))) ⌝ }
+    ensures { λ b. ⌜ b ≡ tests.soundRows r (layout.lent (now (vt .entry)) (now (mt .entry)) (now (ot .entry)) (now (ts .entry))) ⌝ }
 {
     if all_tidy(ts, r.tasks) {
         clean_rows(r, vt, mt, ot, ts)
@@ -288,9 +287,9 @@ fn sound_rows(r: PlanRecord, vt: &[u64], mt: &[u64], ot: &[u64], ts: &[u64]) -> 
 
 // The test for 9: does some accepted plan give these tables with this record?
 pub fn is_given(r: PlanRecord, vt: &[u64], mt: &[u64], ot: &[u64], ts: &[u64]) -> bool
-    ensures { λ b. ⌜ b ≡ tables.isGiven r (record { vcpus = now (vt .entry); mutexes = now (mt .entry); opens = now (ot .entry); tasks = now (ts .entry) }) ⌝ }
+    ensures { λ b. ⌜ b ≡ tables.isGiven r (layout.lent (now (vt .entry)) (now (mt .entry)) (now (ot .entry)) (now (ts .entry))) ⌝ }
 {
-    if roomy(r, vt, mt, ot, ts) & few(r) {
+    if plan_tables::roomy(r, vt.len(), mt.len(), ot.len(), ts.len()) & few(r) {
         sound_rows(r, vt, mt, ot, ts)
     } else {
         false

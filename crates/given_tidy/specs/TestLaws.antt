@@ -1,27 +1,20 @@
 -- Laws of the tests that judge no item.
-use Prim.Native.Nat.{ℕ, _+_, _*_, _/_, _≤_, _<_}
+use Prim.Native.Nat.{ℕ, _+_, _*_, _≤_, _<_}
 use mathlib.Core.Path.{_≡_, sym}
 use mathlib.Core.Bool.{Bool, true, false}
 use mathlib.Core.Logic.{_↔_}
 use mathlib.Core.List.{List}
-use native.Mathlib.Nat.{le-div-iff-mul-le}
 use lib.Dec.{leb}
-use borrow.Author.Tests.{leb-true, le-leb, lt-leb}
-use Rattle.laws.specs.BoolLaws.{miss-left, both-ways, both-exactly, leb-exactly}
+use borrow.Author.Tests.{le-leb, lt-leb}
+use Rattle.laws.specs.BoolLaws.{miss-left, both-exactly, leb-exactly}
 use Rattle.laws.specs.SumLaws.{each-all}
 use Rattle.laws.specs.Rows.{rows}
 use Rattle.laws.specs.RowLaws.{all-found, each-rows}
-use Rattle.plan.specs.Limits.{maxV, maxM, maxTasks, maxLocks}
+use Rattle.plan.specs.Limits.{maxV, maxM, mostTasks, maxLocks}
 use Rattle.plan_tables.specs.declared.PlanRecord.{PlanRecord}
 use Rattle.plan_tables.specs.Layout.{taskWidth, lockWidth, firstLock, cell}
 use Rattle.plan_tables.specs.Given.{zeroFrom, zeroRest}
 use Rattle.given_tidy.specs.Tests.{mostRows, few, Few, tidy, allTidy}
-
--- room, with no product that could wrap
-pub room-same : (n w l : ℕ) → 0 < w → leb n (l / w) ≡ leb (n * w) l
-room-same n w l h =
-    both-ways (leb n (l / w)) (leb (n * w) l) (λ e. le-leb (n * w) l (le-div-iff-mul-le h .0 (leb-true n (l / w) e)))
-    (λ e. le-leb n (l / w) (le-div-iff-mul-le h .1 (leb-true (n * w) l e)))
 
 -- a task by its count of locks: few, or more
 module _ (t : List ℕ) (i : ℕ) {k : ℕ} (e : k ≡ cell t taskWidth i 4) where
@@ -39,7 +32,7 @@ unfolding few
 few-exactly r =
     let e =
     both-exactly (leb-exactly (r .vcpus) maxV)
-    (both-exactly (leb-exactly (r .mutexes) maxM) (both-exactly (leb-exactly (r .opens) mostRows) (leb-exactly (r .tasks) maxTasks))) in (
+    (both-exactly (leb-exactly (r .mutexes) maxM) (both-exactly (leb-exactly (r .opens) mostRows) (leb-exactly (r .tasks) mostTasks))) in (
       λ h. let f = e .0 h in record { vcpus = f .0; mutexes = f .1 .0; opens = f .1 .1 .0; tasks = f .1 .1 .1 },
       λ h. e .1 (h .vcpus, (h .mutexes, (h .opens, h .tasks))),
     )

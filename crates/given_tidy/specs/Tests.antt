@@ -5,29 +5,25 @@ use mathlib.Core.Bool.{Bool, _&&_}
 use lib.Dec.{leb}
 use Rattle.laws.specs.Sums.{all}
 use Rattle.laws.specs.Rows.{rows}
-use Rattle.plan.specs.Limits.{maxV, maxM, maxGuest, maxTasks, maxLocks}
-use Rattle.plan_tables.specs.Layout.{Tables, taskWidth, cell}
+use Rattle.plan.specs.Limits.{maxV, maxM, maxGuest, mostTasks, maxLocks}
+use Rattle.plan_tables.specs.Layout.{taskWidth, cell}
 use Rattle.plan_tables.specs.declared.PlanRecord.{PlanRecord}
 use Rattle.plan_tables.specs.Given.{zeroRest}
-
--- the lent tables
-abbrev pub lent : List ℕ → List ℕ → List ℕ → List ℕ → Tables
-lent vt mt ot ts = record { vcpus = vt; mutexes = mt; opens = ot; tasks = ts }
 
 -- no table of a plan has more rows: openings, a pair of mutex and guest each
 abbrev pub mostRows : ℕ
 mostRows = maxM * maxGuest
 
--- no more rows than a plan can have
+-- no more rows than a plan can have, and no more tasks than there are places for
 unfoldable pub few : PlanRecord → Bool
-few r = leb (r .vcpus) maxV && (leb (r .mutexes) maxM && (leb (r .opens) mostRows && leb (r .tasks) maxTasks))
+few r = leb (r .vcpus) maxV && (leb (r .mutexes) maxM && (leb (r .opens) mostRows && leb (r .tasks) mostTasks))
 
 -- the same as a fact
 pub record Few (r : PlanRecord) : Type 0 where
   pub vcpus : r .vcpus ≤ maxV
   pub mutexes : r .mutexes ≤ maxM
   pub opens : r .opens ≤ mostRows
-  pub tasks : r .tasks ≤ maxTasks
+  pub tasks : r .tasks ≤ mostTasks
 
 -- task i has at most 8 locks, and zeros in the places of those that it does not have
 unfoldable pub tidy : List ℕ → ℕ → Bool

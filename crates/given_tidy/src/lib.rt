@@ -1,40 +1,27 @@
-// The tests of lent tables that judge no item, for 9: the counts within the slices and within a plan's, zeros where a task has no lock, and the guest of a task. (specs/Tests has the tests, specs/Hosts the guests.)
+// The tests of lent tables that judge no item, for 9: the counts within a plan's, zeros where a task has no lock, and the guest of a task. (specs/Tests has the tests, specs/Hosts the guests.)
+use plan::MAX_LOCKS;
+use plan::MAX_M;
+use plan::MAX_V;
+use plan::MOST_TASKS;
+use plan_tables::FIRST_LOCK;
+use plan_tables::LOCK_WIDTH;
+use plan_tables::MOST;
 use plan_tables::PlanRecord;
+use plan_tables::TASK_WIDTH;
+use plan_tables::VCPU_WIDTH;
 use plan_tables::at;
 ghost use mathlib.Core.Path.{_≡_};
-ghost use Prim.Native.Nat.{_*_, _-_, _≤_, _<_};
-ghost use lib.Dec.{leb};
-ghost use lib.ListN.{length};
+ghost use Prim.Native.Nat.{_-_, _≤_};
 ghost use Rattle.laws.specs.Rows.{rows};
 ghost use Rattle.plan_tables.specs.Layout as layout;
 ghost use Rattle.plan_tables.specs.Given as tables;
 ghost use Rattle.given_tidy.specs.Hosts as hosts;
 ghost use Rattle.given_tidy.specs.Tests as tests;
 
-// The numbers in a row of each table (specs/Layout of the tables).
-pub const VCPU_WIDTH: usize = 5;
+// No plan has more VCPUs, and no more mutexes.
+const MAX_VCPUS: usize = MAX_V as usize;
 
-pub const MUTEX_WIDTH: usize = 2;
-
-pub const OPEN_WIDTH: usize = 2;
-
-pub const LOCK_WIDTH: usize = 3;
-
-pub const TASK_WIDTH: usize = 29;
-
-// Where the locks of a task begin.
-pub const FIRST_LOCK: usize = 5;
-
-// No plan has more rows of each table, and no task more locks (specs/Limits of `plan`).
-const MAX_VCPUS: usize = 16;
-
-const MAX_MUTEXES: usize = 32;
-
-const MAX_OPENS: usize = 128;
-
-const MAX_TASKS: usize = 64;
-
-const MAX_LOCKS: u64 = 8;
+const MAX_MUTEXES: usize = MAX_M as usize;
 
 // Place j of row i, in rows of w numbers.
 pub fn cell(t: &[u64], w: usize, i: usize, j: usize) -> u64
@@ -130,29 +117,10 @@ pub fn all_tidy(t: &[u64], n: usize) -> bool
     true
 }
 
-// Are n rows of w numbers within a slice?
-fn has_room(n: usize, w: usize, t: &[u64]) -> bool
-    requires { ⌜ 0 < w ⌝ }
-    ensures { λ r. ⌜ r ≡ leb (n * w) (length (now (t .entry))) ⌝ }
-{
-    n <= t.len() / w
-}
-
-// Are the counts within the slices?
-pub fn roomy(r: PlanRecord, vt: &[u64], mt: &[u64], ot: &[u64], ts: &[u64]) -> bool
-    ensures { λ b. ⌜ b ≡ tables.roomy r (tests.lent (now (vt .entry)) (now (mt .entry)) (now (ot .entry)) (now (ts .entry))) ⌝ }
-{
-    let vcpus = has_room(r.vcpus, VCPU_WIDTH, vt);
-    let mutexes = has_room(r.mutexes, MUTEX_WIDTH, mt);
-    let opens = has_room(r.opens, OPEN_WIDTH, ot);
-    let tasks = has_room(r.tasks, TASK_WIDTH, ts);
-    vcpus & (mutexes & (opens & tasks))
-}
-
-// Are there no more rows than a plan can have?
+// Are there no more rows than a plan can have, and no more tasks than there are places for?
 pub fn few(r: PlanRecord) -> bool
     ensures { λ b. ⌜ b ≡ tests.few r ⌝ }
 {
     (r.vcpus <= MAX_VCPUS)
-        & ((r.mutexes <= MAX_MUTEXES) & ((r.opens <= MAX_OPENS) & (r.tasks <= MAX_TASKS)))
+        & ((r.mutexes <= MAX_MUTEXES) & ((r.opens <= MOST) & (r.tasks <= MOST_TASKS)))
 }

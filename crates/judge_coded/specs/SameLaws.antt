@@ -15,7 +15,7 @@ use Rattle.plan.specs.declared.Kind.{Kind}
 use Rattle.plan.specs.declared.Kind.the-variants.{PlanLine, PolicyPO, PolicyPN, PolicyDO, PolicyDN, VcpuLine, MutexG, MutexL, OpenLine, GuestLine, TaskLine, RunLine, LockLine, EndLine, AskLine, FreeLine, UseLine, TopLine, ShowLine}
 use Rattle.plan.specs.Plan.{Owner, Global, Local, Open}
 use Rattle.plan.specs.Lookup.{isGlobal, isLocalTo}
-use Rattle.plan.specs.Rules.{Known, within, nth, vcpuOf, vcpuFits, rule, moved, withMutex, learn}
+use Rattle.plan.specs.Rules.{Known, within, nth, vcpuOf, vcpuFits, rule, testsOf, moved, withMutex, learn}
 use Rattle.plan.specs.JudgeLaws.{clear-test, clear-rest}
 use Rattle.plan.specs.RuleLaws.{in-range}
 use Rattle.judge_coded.specs.Coded.{Seen, global, bump, ranged, vcpuFault, mutexFault, openFault, guestFault, hostFault, taskFault, runFault, lockFault, ruled, afterVcpu, afterMutex, afterOpen, placed, seenBy}
@@ -29,7 +29,7 @@ unfolding mutexFault unless
 global-rule s m = rw (and-true (within m 1 maxM))
 
 pub same-rule : {t : Known} {s : Seen} → Same t s → (k : Kind) (ns : List ℕ) → rule t k ns ≡ ruled s k ns
-unfolding rule ruled vcpuFault mutexFault openFault guestFault hostFault taskFault runFault lockFault
+unfolding rule testsOf ruled vcpuFault mutexFault openFault guestFault hostFault taskFault runFault lockFault
 same-rule r PlanLine ns = refl
 same-rule r PolicyPO ns = refl
 same-rule r PolicyPN ns = refl
@@ -77,7 +77,7 @@ module _ (q : ℕ) {t : Known} {s : Seen} (r : Same t s) where
       }
 
   after-vcpu : (ns : List ℕ) → rule t VcpuLine ns ≡ Clear → Same (learn q t VcpuLine ns) (seenBy q s VcpuLine ns)
-  unfolding rule vcpuFits learn seenBy afterVcpu
+  unfolding rule testsOf vcpuFits learn seenBy afterVcpu
   after-vcpu ns h =
       let x = vcpuOf ns in
       let fits : vcpuFits x ≡ true = clear-test _ _ _ h in
@@ -115,14 +115,14 @@ module _ (q : ℕ) {t : Known} {s : Seen} (r : Same t s) where
       }
 
   after-global : (ns : List ℕ) → rule t MutexG ns ≡ Clear → Same (learn q t MutexG ns) (seenBy q s MutexG ns)
-  unfolding rule learn seenBy
+  unfolding rule testsOf learn seenBy
   after-global ns h =
       let a = in-range (nth 0 ns) 1 maxM (clear-test _ _ _ h) in
       let l : s .mutex < nth 0 ns = ltb-true (s .mutex) (nth 0 ns) (rw (r .mutexes .top-is) at (clear-test _ _ _ (clear-rest _ _ _ h))) in
       mutex-after (nth 0 ns) global Global (a .1) l (omega arith) (omega arith) refl (λ v. refl)
 
   after-local : (ns : List ℕ) → rule t MutexL ns ≡ Clear → Same (learn q t MutexL ns) (seenBy q s MutexL ns)
-  unfolding rule learn seenBy
+  unfolding rule testsOf learn seenBy
   after-local ns h =
       let w = nth 1 ns in
       let fits : ranged (nth 0 ns) maxM w maxV ≡ true = clear-test _ _ _ h in
@@ -133,7 +133,7 @@ module _ (q : ℕ) {t : Known} {s : Seen} (r : Same t s) where
       mutex-after (nth 0 ns) w (Local w) (a .1) l (b .0) (omega arith) (sym (ne-eqb w global (λ e. omega arith))) (λ v. sym (ap (λ x. x && eqb w v) ok))
 
   after-open : (ns : List ℕ) → rule t OpenLine ns ≡ Clear → Same (learn q t OpenLine ns) (seenBy q s OpenLine ns)
-  unfolding rule learn seenBy afterOpen
+  unfolding rule testsOf learn seenBy afterOpen
   after-open ns h =
       let x : Open = record { m = nth 0 ns; guest = nth 1 ns } in
       record {
@@ -156,13 +156,13 @@ module _ (q : ℕ) {t : Known} {s : Seen} (r : Same t s) where
   more-is {m} {n} e l = ap (λ x. x + 1) e ∙ sym (bump-one n (omega arith))
 
   after-task : (ns : List ℕ) → rule t TaskLine ns ≡ Clear → Same (learn q t TaskLine ns) (seenBy q s TaskLine ns)
-  unfolding rule learn seenBy
+  unfolding rule testsOf learn seenBy
   after-task ns h =
       let few = clear-test _ _ _ (clear-rest _ _ _ (clear-rest _ _ _ (clear-rest _ _ _ (clear-rest _ _ _ h)))) in
       placed-same (r .guest-is) refl refl (more-is (r .tasks-is) (ltb-true (t .tasks) maxTasks few)) refl
 
   after-lock : (ns : List ℕ) → rule t LockLine ns ≡ Clear → Same (learn q t LockLine ns) (seenBy q s LockLine ns)
-  unfolding rule learn seenBy
+  unfolding rule testsOf learn seenBy
   after-lock ns h =
       let few : t .locks < maxLocks = ltb-true (t .locks) maxLocks (clear-test _ _ _ (clear-rest _ _ _ (clear-rest _ _ _ (clear-rest _ _ _ h)))) in
       placed-same (r .guest-is) (r .v-is) (r .n-is) (r .tasks-is) (more-is (r .locks-is) (omega arith))

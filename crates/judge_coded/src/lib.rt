@@ -1,39 +1,14 @@
 // What a judge of a plan's items has seen, by value: numbers by place where the rules of `plan` keep rows. What is wrong with an item after it stands in specs/Coded;
 // that this agrees with the rules of `plan`, in specs/Agrees.
+use plan::MAX_CORE;
+use plan::MAX_GUEST;
+use plan::MAX_M;
+use plan::MAX_PERIOD;
+use plan::MAX_V;
 use plan::within;
 ghost use mathlib.Core.Path.{_≡_};
 ghost use Rattle.plan.specs.Rules.{vcpuFits};
 ghost use Rattle.judge_coded.specs.Coded as coded;
-
-// The limits of document 01 (specs/Limits of `plan`): v 1 to 16.
-pub const MAX_V: u64 = 16;
-
-// Guest 1 to 4.
-pub const MAX_GUEST: u64 = 4;
-
-// Core 0 to 3.
-pub const MAX_CORE: u64 = 3;
-
-// m 1 to 32.
-pub const MAX_M: u64 = 32;
-
-// n 1 to 8.
-pub const MAX_N: u64 = 8;
-
-// Every period 1 to 1,000,000.
-pub const MAX_PERIOD: u64 = 1000000;
-
-// Run 0 to 1,000,000, lock 1 to 1,000,000.
-pub const MAX_LENGTH: u64 = 1000000;
-
-// At most 64 tasks in a plan.
-pub const MAX_TASKS: u64 = 64;
-
-// At most 8 locks in a task.
-pub const MAX_LOCKS: u64 = 8;
-
-// A number field that is not written as it should be says this or more.
-pub const BAD: u64 = 10000000;
 
 // Places by v, one for each number from 0 to its limit, so that a number is its own place.
 pub const VCPUS: usize = MAX_V as usize + 1;
@@ -52,9 +27,6 @@ pub const NOWHERE: u64 = MAX_M * MAX_GUEST;
 
 // The owner of a global mutex, above every v; a local mutex has its v, an undeclared one 0.
 pub const GLOBAL: u64 = MAX_V + 1;
-
-// The phase after `end`.
-pub const ENDED: u64 = 10;
 
 // What is seen after some items.
 pub struct Seen {

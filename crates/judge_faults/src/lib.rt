@@ -1,19 +1,19 @@
-// What is wrong with an item of a plan, a kind and its numbers, after those before it. What it means stands in the crate coded.
+// What is wrong with an item of a plan, a kind and its numbers, after those before it. What it means stands in specs/Coded of `judge_coded`.
 use judge_coded::GLOBAL;
-use judge_coded::MAX_GUEST;
-use judge_coded::MAX_LENGTH;
-use judge_coded::MAX_LOCKS;
-use judge_coded::MAX_M;
-use judge_coded::MAX_N;
-use judge_coded::MAX_PERIOD;
-use judge_coded::MAX_TASKS;
-use judge_coded::MAX_V;
 use judge_coded::Seen;
 use judge_coded::ranged;
 use judge_coded::slot;
 use judge_coded::vcpu_fits;
 use plan::Fault;
 use plan::Kind;
+use plan::MAX_GUEST;
+use plan::MAX_LENGTH;
+use plan::MAX_LOCKS;
+use plan::MAX_M;
+use plan::MAX_N;
+use plan::MAX_PERIOD;
+use plan::MAX_TASKS;
+use plan::MAX_V;
 use plan::Refusal;
 use plan::unless;
 use plan::within;

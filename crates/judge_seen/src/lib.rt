@@ -1,14 +1,14 @@
-// What is seen after an item of a plan, a kind and its numbers. What it means stands in the crate coded.
-use judge_coded::ENDED;
+// What is seen after an item of a plan, a kind and its numbers. What it means stands in specs/Coded of `judge_coded`.
 use judge_coded::GLOBAL;
 use judge_coded::GUESTS;
-use judge_coded::MAX_TASKS;
 use judge_coded::MUTEXES;
 use judge_coded::OPENINGS;
 use judge_coded::Seen;
 use judge_coded::VCPUS;
 use judge_coded::slot;
+use plan::ENDED;
 use plan::Kind;
+use plan::MAX_TASKS;
 ghost use mathlib.Core.Path.{_≡_};
 ghost use lib.ListN.{set};
 ghost use Rattle.plan.specs.Rules as rules;

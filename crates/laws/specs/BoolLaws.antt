@@ -1,10 +1,10 @@
--- Laws of `&&` and `||`, and of tests as facts.
+-- Laws of `&&` and `||`, cases of a test, and tests as facts.
 use Prim.Native.Nat.{ℕ, _≤_}
-use mathlib.Core.Path.{_≡_, refl, sym}
-use mathlib.Core.Bool.{Bool, true, false, _&&_, _||_, or-true, and-false}
-use mathlib.Core.Logic.{_↔_}
-use lib.Dec.{leb}
-use borrow.Author.Tests.{leb-true, le-leb}
+use mathlib.Core.Path.{_≡_, refl, sym, _∙_}
+use mathlib.Core.Bool.{Bool, true, false, _&&_, _||_, or-true, and-false, true≢false, false≢true}
+use mathlib.Core.Logic.{_↔_, _⊎_, inl, inr, ⊎-elim}
+use lib.Dec.{eqb, leb}
+use borrow.Author.Tests.{eqb-true, eqb-false, leb-true, le-leb}
 
 pub both-left : (a b : Bool) → (a && b) ≡ true → a ≡ true
 both-left true b e = refl
@@ -43,6 +43,42 @@ neither-right false b e = e
 
 pub neither : (a b : Bool) → a ≡ false → b ≡ false → (a || b) ≡ false
 neither a b e f = rw (e, f)
+
+-- one of two holds
+pub either-of : (a b : Bool) → (a || b) ≡ true → (a ≡ true) ⊎ (b ≡ true)
+either-of true b e = inl refl
+either-of false b e = inr e
+
+-- where the first fails, the second passes
+pub or-else : (a b : Bool) → (a || b) ≡ true → a ≡ false → b ≡ true
+or-else true b e f = absurd (true≢false f)
+or-else false b e f = e
+
+-- not both hold: where the first passes, the second fails
+pub missed : (a b : Bool) → (a && b) ≡ false → a ≡ true → b ≡ false
+missed true b e f = e
+missed false b e f = absurd (false≢true f)
+
+-- CASES OF A TEST
+
+-- a test that passes does not fail
+pub clash : {t : Bool} → t ≡ true → t ≡ false → ⊥
+clash e f = true≢false (sym e ∙ f)
+
+pub bool-cases : (t : Bool) → (t ≡ true) ⊎ (t ≡ false)
+bool-cases true = inl refl
+bool-cases false = inr refl
+
+pub is-true : (t : Bool) → (t ≡ false → ⊥) → t ≡ true
+is-true true h = refl
+is-true false h = absurd (h refl)
+
+pub is-false : (t : Bool) → (t ≡ true → ⊥) → t ≡ false
+is-false true h = absurd (h refl)
+is-false false h = refl
+
+pub same-or-not : (a b : ℕ) → (a ≡ b) ⊎ (a ≡ b → ⊥)
+same-or-not a b = ⊎-elim (λ e. inl (eqb-true a b e)) (λ e. inr (eqb-false a b e)) (bool-cases (eqb a b))
 
 -- two tests that imply each other
 pub both-ways : (a b : Bool) → (a ≡ true → b ≡ true) → (b ≡ true → a ≡ true) → a ≡ b

@@ -1,7 +1,12 @@
--- Tests over the numbers from 1 to n.
-use Prim.Native.Nat.{ℕ, zero, suc}
+-- The numbers from 1 to n, and tests over them.
+use Prim.Native.Nat.{ℕ, zero, suc, _<_, _≤_}
 use mathlib.Core.Bool.{Bool, true, false, _&&_, _||_}
 use mathlib.Core.List.{List, [], _∷_, _++_}
+
+-- k is one of them
+pub record OneTo (n k : ℕ) : Type 0 where
+  pub from : 0 < k
+  pub to : k ≤ n
 
 -- some k from 1 to n passes
 unfoldable pub anyTo : ℕ → (ℕ → Bool) → Bool

@@ -1,7 +1,7 @@
 -- Laws of the tests over the numbers from 1 to n, as a loop uses them, and as a reader does.
 use Prim.Native.Nat.{ℕ, zero, suc, _+_, _<_, _≤_, _-_}
 use mathlib.Core.Path.{_≡_, refl, sym, _∙_}
-use mathlib.Core.Bool.{Bool, true, false}
+use mathlib.Core.Bool.{Bool, true, false, true≢false, false≢true}
 use mathlib.Core.List.{[], _∷_}
 use mathlib.Core.Logic.{_↔_, ⊎-elim}
 use native.Mathlib.Nat.{eq-or-lt-of-le, le-of-suc-le-suc}
@@ -9,8 +9,8 @@ use native.Mathlib.Numerals.{add-one}
 use native.Mathlib.Omega.{arith}
 use lib.ListN.{length, getD, length-append, List·getD-append}
 use lib.Seq.{getD-at}
-use Rattle.laws.specs.BoolLaws.{both-left, both-right, both, miss-left, miss-right, either-left, either-right, neither-left, neither-right, neither}
-use Rattle.laws.specs.Range.{anyTo, allTo, highest, listTo}
+use Rattle.laws.specs.BoolLaws.{both-left, both-right, both, miss-left, miss-right, either-left, either-right, neither-left, neither-right, neither, either-of, missed, bool-cases}
+use Rattle.laws.specs.Range.{OneTo, anyTo, allTo, highest, listTo}
 
 -- k is at most n + 1: it is n + 1, or at most n
 last-or : {P : Type 0} (n k : ℕ) → k ≤ suc n → (k ≡ suc n → P) → (k ≤ n → P) → P
@@ -72,6 +72,30 @@ unfolding allTo
 all-of zero f h = refl
 all-of (suc n) f h =
     both (f (suc n)) (allTo n f) (h (suc n) (omega arith) (omega arith)) (all-of n f (λ k g l. h k g (omega arith)))
+
+-- WHERE A TEST PASSES, OR FAILS
+
+-- k from 1 to n at which f is t
+pub record Witness (n : ℕ) (f : ℕ → Bool) (t : Bool) : Type 0 where
+  pub at : ℕ
+  pub within : OneTo n at
+  pub is : f at ≡ t
+
+here : {n : ℕ} {f : ℕ → Bool} {t : Bool} → f (suc n) ≡ t → Witness (suc n) f t
+here {n} e = record { at = suc n; within = record { from = omega arith; to = omega arith }; is = e }
+
+below : {n : ℕ} {f : ℕ → Bool} {t : Bool} → Witness n f t → Witness (suc n) f t
+below r = record { at = r .at; within = record { from = r .within .from; to = omega arith }; is = r .is }
+
+pub any-at : (n : ℕ) (f : ℕ → Bool) → anyTo n f ≡ true → Witness n f true
+unfolding anyTo
+any-at zero f e = absurd (false≢true e)
+any-at (suc n) f e = let ih = any-at n f in ⊎-elim here (λ p. below (ih p)) (either-of (f (suc n)) (anyTo n f) e)
+
+pub miss-at : (n : ℕ) (f : ℕ → Bool) → allTo n f ≡ false → Witness n f false
+unfolding allTo
+miss-at zero f e = absurd (true≢false e)
+miss-at (suc n) f e = let ih = miss-at n f in ⊎-elim (λ p. below (ih (missed (f (suc n)) (allTo n f) e p))) here (bool-cases (f (suc n)))
 
 -- THE GREATEST THAT PASSES
 

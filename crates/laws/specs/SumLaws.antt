@@ -1,6 +1,6 @@
 -- Laws of `Sums`: what is rounded up, summed up or maximised rises with its parts, and a sum or a product may be capped early.
 use Prim.Native.Nat.{ℕ, zero, suc, _+_, _-_, _*_, _/_, _≤_, _<_, min, max}
-use mathlib.Core.Bool.{Bool, true, false, _&&_, _||_, and-assoc, or-assoc}
+use mathlib.Core.Bool.{Bool, true, false, _&&_, _||_, and-assoc, or-assoc, false≢true}
 use mathlib.Core.List.{List, [], _∷_, _++_, append-assoc}
 use mathlib.Core.Path.{_≡_, refl, ap, ap₂, _∙_}
 use mathlib.Core.Logic.{_↔_, ⊎-elim, by-cases}
@@ -8,7 +8,7 @@ use native.Mathlib.Nat.{div-zero, div-eq-of-lt, add-div-right, div-lt-iff-lt-mul
 use native.Mathlib.Omega.{arith}
 use native.Mathlib.Decide.{decLe}
 use lib.ListN.{length, getD}
-use Rattle.laws.specs.BoolLaws.{both-left, both-right, both, neither-left, neither-right}
+use Rattle.laws.specs.BoolLaws.{both-left, both-right, both, either-left, either-right, neither-left, neither-right, neither, either-of}
 use Rattle.laws.specs.Choice.{when}
 use Rattle.laws.specs.Sums.{up, sum, greatest, any, all, first, flat, only, Each}
 
@@ -56,6 +56,18 @@ unfolding when
 when-le true x = omega arith
 when-le false x = omega arith
 
+pub when-plus : (b : Bool) (x y : ℕ) → when b (x + y) ≡ when b x + when b y
+unfolding when
+when-plus true x y = refl
+when-plus false x y = refl
+
+pub when-and : (a b : Bool) (x : ℕ) → when (a && b) x ≡ when b (when a x)
+unfolding when
+when-and true true x = refl
+when-and true false x = refl
+when-and false true x = refl
+when-and false false x = refl
+
 pub max-rises : {a b c d : ℕ} → a ≤ c → b ≤ d → max a b ≤ max c d
 max-rises h k = omega arith
 
@@ -90,6 +102,11 @@ unfolding sum
 sum-same [] h = refl
 sum-same (x ∷ xs) h = ap₂ _+_ (h x) (sum-same xs h)
 
+pub sum-zero : {A : Type 0} (f : A → ℕ) (xs : List A) → Each (λ x. f x ≡ 0) xs → sum f xs ≡ 0
+unfolding sum
+sum-zero f [] h = refl
+sum-zero f (x ∷ xs) h = let a = h .0 in let c = sum-zero f xs (h .1) in omega arith
+
 -- no row above b
 pub sum-bound : {A : Type 0} (xs : List A) (b : ℕ) {f : A → ℕ} → ((x : A) → f x ≤ b) → sum f xs ≤ length xs * b
 unfolding sum
@@ -122,6 +139,15 @@ unfolding greatest
 greatest-bound [] b h = omega arith
 greatest-bound (x ∷ xs) b h = max-le (h x) (greatest-bound xs b h)
 
+-- a row that passes gives at least n: so does the greatest
+pub greatest-row :
+    {A : Type 0} (p : A → Bool) (f : A → ℕ) (n : ℕ) (xs : List A) → ((x : A) → p x ≡ true → n ≤ f x) → any p xs ≡ true → n ≤ greatest f xs
+unfolding any greatest
+greatest-row p f n [] h e = absurd (false≢true e)
+greatest-row p f n (x ∷ xs) h e =
+    let ih = greatest-row p f n xs h in
+    ⊎-elim (λ q. let l = h x q in omega arith) (λ q. let l = ih q in omega arith) (either-of (p x) (any p xs) e)
+
 -- TESTS
 
 pub any-append : {A : Type 0} (f : A → Bool) (xs ys : List A) → any f (xs ++ ys) ≡ (any f xs || any f ys)
@@ -133,6 +159,24 @@ pub all-append : {A : Type 0} (f : A → Bool) (xs ys : List A) → all f (xs ++
 unfolding all
 all-append f [] ys = refl
 all-append f (x ∷ xs) ys = rw (all-append f xs ys, and-assoc)
+
+-- a row that passes f, and P holds of it; a test that it passes is passed by some row of xs
+pub record Passing {A : Type 0} (f : A → Bool) (P : A → Type 0) (xs : List A) : Type 0 where
+  pub row : A
+  pub passes : f row ≡ true
+  pub has : P row
+  pub shows : (g : A → Bool) → g row ≡ true → any g xs ≡ true
+
+-- where some row passes, and P holds of every row
+pub any-row : {A : Type 0} (f : A → Bool) (P : A → Type 0) (xs : List A) → any f xs ≡ true → Each P xs → Passing f P xs
+unfolding any
+any-row f P [] e h = absurd (false≢true e)
+any-row f P (x ∷ xs) e h =
+    let ih = any-row f P xs in
+    ⊎-elim (λ p. record { row = x; passes = p; has = h .0; shows = λ g t. either-left (g x) (any g xs) t })
+    (λ p. let r = ih p (h .1) in
+    record { row = r .row; passes = r .passes; has = r .has; shows = λ g t. either-right (g x) (any g xs) (r .shows g t) })
+    (either-of (f x) (any f xs) e)
 
 -- the test of all, as a fact of each
 pub all-each : {A : Type 0} (f : A → Bool) (xs : List A) → all f xs ≡ true → Each (λ x. f x ≡ true) xs
@@ -206,6 +250,17 @@ module _ {A : Type 0} (f : A → Bool) where
   unfolding any
   first-none d [] h = unfold first in refl
   first-none d (x ∷ xs) h = first-out d x xs (neither-left (f x) (any f xs) h) ∙ first-none d xs (neither-right (f x) (any f xs) h)
+
+-- what holds of every row holds of the first row that passes; where none does, it must hold of d
+pub first-each :
+    {A : Type 0} (f : A → Bool) (P : A → Type 0) (d : A) (xs : List A) → (any f xs ≡ false → P d) → Each P xs → P (first f d xs)
+unfolding any first
+first-each f P d [] k h = k refl
+first-each f P d (x ∷ xs) k h = go (f x) refl (first-each f P d xs)
+  where
+    go : (t : Bool) → f x ≡ t → ((any f xs ≡ false → P d) → Each P xs → P (first f d xs)) → P (elim t [ true ↦ x | false ↦ first f d xs ])
+    go true e ih = h .0
+    go false e ih = ih (λ q. k (neither (f x) (any f xs) e q)) (h .1)
 
 -- MONOTONICITY
 

@@ -16,13 +16,14 @@ use Rattle.plan.specs.declared.Refusal.{Refusal}
 use Rattle.plan.specs.declared.Refusal.the-variants.{Room}
 use Rattle.plan.specs.Refusals.{numberOf}
 use Rattle.plan.specs.Line.{wOne, wVcpu, wTask}
-use Rattle.plan.specs.Plan.{Vcpu, Lock, Task}
-use Rattle.plan.specs.Lookup.{global}
+use Rattle.plan.specs.declared.Lock.{Lock}
+use Rattle.plan.specs.Plan.{Vcpu, Task}
 use Rattle.plan.specs.Reading.{Reading, Accepts, Refuses, reading}
 use Rattle.figures.specs.System.{System, system}
 use Rattle.figures.specs.declared.TaskAnswer.{TaskAnswer}
 use Rattle.figures.specs.declared.TaskAnswer.the-variants.{Searched, NoWait, Held}
 use Rattle.figures.specs.Answers.{vcpuAnswer, waitAnswer, taskAnswer, allFit}
+use Rattle.figures.specs.Figures.{isSection}
 
 -- the words, in bytes
 -- verdict
@@ -96,7 +97,7 @@ waitLine p k i l = line (wWait ∷ decimal (k .v) ∷ decimal (k .n) ∷ decimal
 -- one for each global section, "all its locks counted, from 1": the locks from place i on
 unfoldable pub waitLines : System → Task → ℕ → List Lock → List ℕ
 waitLines p k i [] = []
-waitLines p k i (l ∷ ls) = elim (global (p .mutexes) (l .m)) [ true ↦ waitLine p k i l | false ↦ [] ] ++ waitLines p k (i + 1) ls
+waitLines p k i (l ∷ ls) = elim (isSection p l) [ true ↦ waitLine p k i l | false ↦ [] ] ++ waitLines p k (i + 1) ls
 
 -- `task` v, n, answer, w, rounds
 unfoldable pub taskLine : System → Task → List ℕ

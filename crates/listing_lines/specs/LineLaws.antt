@@ -11,7 +11,8 @@ use Rattle.search.specs.declared.Answer.{Answer}
 use Rattle.search.specs.declared.Answer.the-variants.{Fits, Late}
 use Rattle.plan.specs.declared.Refusal.{Refusal}
 use Rattle.plan.specs.Refusals.{numberOf}
-use Rattle.plan.specs.Plan.{Vcpu, Lock, Task}
+use Rattle.plan.specs.declared.Lock.{Lock}
+use Rattle.plan.specs.Plan.{Vcpu, Task}
 use Rattle.figures.specs.System.{System}
 use Rattle.figures.specs.declared.TaskAnswer.{TaskAnswer}
 use Rattle.figures.specs.declared.TaskAnswer.the-variants.{Searched, NoWait, Held}
@@ -58,13 +59,13 @@ pub line-three : (f g h : List ℕ) (fs : List (List ℕ)) → Joins (line (f �
 line-three f g h fs = record { is = line-rest f (g ∷ h ∷ fs) ∙ simp (rest-more, append-assoc) }
 
 -- an answer's fields, taken apart
-wait-fields : (a : Answer) → waitFields a ≡ numberOr (partsOf a .found) (partsOf a .ticks) wNone ∷ decimal (partsOf a .rounds) ∷ []
+wait-fields : (a : Answer) → waitFields a ≡ numberOr (eqb (partsOf a .kind) 1) (partsOf a .ticks) wNone ∷ decimal (partsOf a .rounds) ∷ []
 wait-fields (Fits w n) = refl
 wait-fields (Late n) = refl
 
 task-fields :
     (a : TaskAnswer) →
-    taskFields a ≡ answerWord (taskParts a .code) ∷ numberOr (taskParts a .found) (taskParts a .ticks) dash ∷ decimal (taskParts a .rounds) ∷ []
+    taskFields a ≡ answerWord (taskParts a .kind) ∷ numberOr (eqb (taskParts a .kind) 1) (taskParts a .ticks) dash ∷ decimal (taskParts a .rounds) ∷ []
 task-fields (Searched (Fits w n)) = refl
 task-fields (Searched (Late n)) = refl
 task-fields NoWait = refl
@@ -72,12 +73,12 @@ task-fields Held = refl
 
 pub wait-rest :
     (a : Answer) (f : List ℕ) {p : Parts} → p ≡ partsOf a →
-    Joins (rest (f ∷ waitFields a)) (tabbed f) (rest (numberOr (p .found) (p .ticks) wNone ∷ decimal (p .rounds) ∷ []))
+    Joins (rest (f ∷ waitFields a)) (tabbed f) (rest (numberOr (eqb (p .kind) 1) (p .ticks) wNone ∷ decimal (p .rounds) ∷ []))
 wait-rest a f e = rw e (record { is = rest-more f (waitFields a) ∙ rw (wait-fields a) })
 
 pub task-rest :
     (a : TaskAnswer) {p : Parts} → p ≡ taskParts a →
-    Joins (rest (taskFields a)) (tabbed (answerWord (p .code))) (rest (numberOr (p .found) (p .ticks) dash ∷ decimal (p .rounds) ∷ []))
+    Joins (rest (taskFields a)) (tabbed (answerWord (p .kind))) (rest (numberOr (eqb (p .kind) 1) (p .ticks) dash ∷ decimal (p .rounds) ∷ []))
 task-rest a e = rw e (record { is = rw (task-fields a) (rest-more _ _) })
 
 pub refused-text : (r : Refusal) (l : ℕ) {n : ℕ} → n ≡ numberOf r → refusedLine r l ≡ line (wRefused ∷ decimal n ∷ decimal l ∷ [])
@@ -88,9 +89,9 @@ pub refused-joins :
     (r : Refusal) (l : ℕ) {n : ℕ} → n ≡ numberOf r → Joins (refusedLine r l) (wRefused ++ tabbed (decimal n)) (rest (decimal l ∷ []))
 refused-joins r l {n} e = rw (refused-text r l e) (line-two wRefused (decimal n) (decimal l ∷ []))
 
--- a word that is picked by an answer's code
+-- a word that is picked by an answer's kind
 pub answer-word :
-    (c : ℕ) {p q w : List ℕ} → p ≡ (if eqb c 2 then wNoWait else wHeld) → q ≡ (if eqb c 1 then wLate else p) → w ≡ (if eqb c 0 then wFits else q) →
+    (c : ℕ) {p q w : List ℕ} → p ≡ (if eqb c 2 then wNoWait else wHeld) → q ≡ (if eqb c 1 then wFits else p) → w ≡ (if eqb c 0 then wLate else q) →
     answerWord c ≡ w
 answer-word c o p q = sym (q ∙ rw (p, o))
 

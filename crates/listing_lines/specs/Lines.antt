@@ -1,15 +1,16 @@
 -- The texts of the lines that a listing is made of, and the fields that an answer gives.
 use Prim.Native.Nat.{ℕ}
 use mathlib.Core.List.{List, [], _∷_}
-use mathlib.Core.Bool.{Bool, true, false}
+use mathlib.Core.Bool.{Bool}
 use lib.Dec.{eqb}
 use Rattle.laws.specs.Choice.{if_then_else_}
 use Rattle.laws.specs.Decimal.{decimal}
 use Rattle.search.specs.declared.Answer.{Answer}
-use Rattle.search.specs.declared.Answer.the-variants.{Fits, Late}
+use Rattle.search.specs.Search.{rounds}
 use Rattle.plan.specs.Line.{wOne, wVcpu, wTask}
 use Rattle.figures.specs.declared.TaskAnswer.{TaskAnswer}
-use Rattle.figures.specs.declared.TaskAnswer.the-variants.{Searched, NoWait, Held}
+use Rattle.figures.specs.Answers.{ticksOf}
+use Rattle.figures.specs.Kinds.{answerKind, taskKind, taskTicks, taskRounds}
 use Rattle.listing_lines.specs.declared.Parts.{Parts}
 use Rattle.listing.specs.Listing.{wVerdict, wWait, wAll, wFits, wLate, wNoWait, wHeld, line, answerFields, taskFields, waitFields}
 
@@ -33,16 +34,13 @@ taskText v n a = line (wTask ∷ decimal v ∷ decimal n ∷ taskFields a)
 abbrev pub allText : Bool → List ℕ
 allText b = line (wAll ∷ (if b then wFits else wLate) ∷ [])
 
--- an answer taken apart: code, whether it has ticks, these, rounds
+-- an answer taken apart: its kind, its ticks, its rounds
 abbrev pub partsOf : Answer → Parts
-partsOf (Fits w n) = record { code = 0; found = true; ticks = w; rounds = n }
-partsOf (Late n) = record { code = 1; found = false; ticks = 0; rounds = n }
+partsOf a = record { kind = answerKind a; ticks = ticksOf a; rounds = rounds a }
 
 abbrev pub taskParts : TaskAnswer → Parts
-taskParts (Searched a) = partsOf a
-taskParts NoWait = record { code = 2; found = false; ticks = 0; rounds = 0 }
-taskParts Held = record { code = 3; found = false; ticks = 0; rounds = 0 }
+taskParts a = record { kind = taskKind a; ticks = taskTicks a; rounds = taskRounds a }
 
--- the word of a code
+-- the word of a kind
 abbrev pub answerWord : ℕ → List ℕ
-answerWord c = if eqb c 0 then wFits else (if eqb c 1 then wLate else (if eqb c 2 then wNoWait else wHeld))
+answerWord c = if eqb c 0 then wLate else (if eqb c 1 then wFits else (if eqb c 2 then wNoWait else wHeld))

@@ -23,7 +23,7 @@ line-sized w fs q =
 pub word-sized : (c : ℕ) {w : List ℕ} → answerWord c ≡ w → Sized (answerWord c) 6 (length w)
 word-sized c {w} e = record { is = ap length (sym e); small = rw e at (go (eqb c 0) (eqb c 1) (eqb c 2)) }
   where
-    go : (p q r : Bool) → length (if p then wFits else (if q then wLate else (if r then wNoWait else wHeld))) ≤ 6
+    go : (p q r : Bool) → length (if p then wLate else (if q then wFits else (if r then wNoWait else wHeld))) ≤ 6
     go true q r = omega arith
     go false true r = omega arith
     go false false true = omega arith

@@ -19,10 +19,9 @@ pub enum TextAnswer {
     Refused(Refusal),
 }
 
-// An answer, taken apart: its word's code, whether it has ticks, these, and its rounds.
+// An answer, taken apart: its kind (0 late, 1 fits, 2 nowait, 3 held), its ticks, and its rounds.
 struct Parts {
-    code: u64,
-    found: bool,
+    kind: u64,
     ticks: u64,
     rounds: u64,
 }
@@ -32,14 +31,12 @@ fn parts_of(a: Answer) -> Parts
 {
     match a {
         Answer::Fits { w, rounds: n } => Parts {
-            code: 0,
-            found: true,
+            kind: 1,
             ticks: w,
             rounds: n,
         },
         Answer::Late { rounds: n } => Parts {
-            code: 1,
-            found: false,
+            kind: 0,
             ticks: 0,
             rounds: n,
         },
@@ -52,14 +49,12 @@ fn task_parts(a: TaskAnswer) -> Parts
     match a {
         TaskAnswer::Searched(b) => parts_of(b),
         TaskAnswer::NoWait => Parts {
-            code: 2,
-            found: false,
+            kind: 2,
             ticks: 0,
             rounds: 0,
         },
         TaskAnswer::Held => Parts {
-            code: 3,
-            found: false,
+            kind: 3,
             ticks: 0,
             rounds: 0,
         },
@@ -95,8 +90,8 @@ fn tab_answer(out: &mut [u8], c: u64) -> usize
     ensures { λ r. ⌜ Wrote (tabbed (answerWord c)) (now (out .entry)) (now (out .exit)) r ⌝ }
 {
     let held = text_letters::pick(c == 2, b"nowait", b"held");
-    let late = text_letters::pick(c == 1, b"late", held);
-    let word = text_letters::pick(c == 0, b"fits", late);
+    let fits = text_letters::pick(c == 1, b"fits", held);
+    let word = text_letters::pick(c == 0, b"late", fits);
     text_letters::tab_word(out, word)
 }
 
@@ -106,8 +101,8 @@ fn task_rest(out: &mut [u8], a: TaskAnswer) -> usize
     ensures { λ r. ⌜ Wrote (rest (taskFields a)) (now (out .entry)) (now (out .exit)) r ⌝ }
 {
     let p = task_parts(a);
-    let k = tab_answer(out, p.code);
-    k + text_letters::ticks_rest(&mut out[k..], p.found, p.ticks, b"-", p.rounds)
+    let k = tab_answer(out, p.kind);
+    k + text_letters::ticks_rest(&mut out[k..], p.kind == 1, p.ticks, b"-", p.rounds)
 }
 
 // Writes a wait's place and answer to the line's end.
@@ -117,7 +112,7 @@ fn wait_rest(out: &mut [u8], place: u64, a: Answer) -> usize
 {
     let p = parts_of(a);
     let k = text_letters::tab_number(out, place);
-    k + text_letters::ticks_rest(&mut out[k..], p.found, p.ticks, b"none", p.rounds)
+    k + text_letters::ticks_rest(&mut out[k..], p.kind == 1, p.ticks, b"none", p.rounds)
 }
 
 // Writes the first line.
@@ -179,8 +174,8 @@ fn answer_size(c: u64) -> usize
     ensures { λ r. ⌜ Sized (answerWord c) 6 r ⌝ }
 {
     let held = text_letters::pick(c == 2, b"nowait", b"held");
-    let late = text_letters::pick(c == 1, b"late", held);
-    let word = text_letters::pick(c == 0, b"fits", late);
+    let fits = text_letters::pick(c == 1, b"fits", held);
+    let word = text_letters::pick(c == 0, b"late", fits);
     word.len()
 }
 
@@ -188,8 +183,8 @@ fn task_rest_size(a: TaskAnswer) -> usize
     ensures { λ r. ⌜ Sized (rest (taskFields a)) 50 r ⌝ }
 {
     let p = task_parts(a);
-    let x = answer_size(p.code);
-    let y = text_letters::ticks_size(p.found, p.ticks, b"-", p.rounds);
+    let x = answer_size(p.kind);
+    let y = text_letters::ticks_size(p.kind == 1, p.ticks, b"-", p.rounds);
     x + y + 1
 }
 
@@ -198,7 +193,7 @@ fn wait_rest_size(place: u64, a: Answer) -> usize
 {
     let p = parts_of(a);
     let x = text_letters::number_size(place);
-    let y = text_letters::ticks_size(p.found, p.ticks, b"none", p.rounds);
+    let y = text_letters::ticks_size(p.kind == 1, p.ticks, b"none", p.rounds);
     x + y + 1
 }
 

@@ -23,9 +23,10 @@ use Rattle.plan.specs.declared.Refusal.the-variants.{Shape, Number, Range, Orde
 use Rattle.plan.specs.declared.Fault.{Fault}
 use Rattle.plan.specs.declared.Fault.the-variants.{Clear, Bad}
 use Rattle.plan.specs.Refusals.{numberOf}
-use Rattle.plan.specs.Lookup.{global}
-use Rattle.plan.specs.Plan.{Vcpu, Lock, Task, Plan}
-use Rattle.plan.specs.Reading.{Judge, Verdict, Faultless, FirstBad, faultOf, nextOf, finish, onward, judge, Reading, Accepts, Refuses, answer, planOf, itemsIn, readingBy, rules, reading}
+use Rattle.plan.specs.declared.Lock.{Lock}
+use Rattle.plan.specs.Plan.{Vcpu, Task, Plan}
+use Rattle.plan.specs.Reading.{Judge, Verdict, Faultless, FirstBad, faultOf, nextOf, finish, onward, judge, Reading, Accepts, Refuses, answer, readingBy, rules, reading}
+use Rattle.plan.specs.Gathered.{planOf, itemsIn}
 use Rattle.plan.specs.Rules.{start}
 use Rattle.plan.specs.Valid.{Valid}
 use Rattle.plan.specs.Accepted.{read-text}
@@ -36,6 +37,7 @@ use Rattle.figures.specs.Demands.{vcpu-demand, wait-demand, task-demand}
 use Rattle.figures.specs.declared.TaskAnswer.{TaskAnswer}
 use Rattle.figures.specs.declared.TaskAnswer.the-variants.{Searched, NoWait, Held}
 use Rattle.figures.specs.Answers.{vcpuAnswer, waitAnswer, taskAnswer, remoteWaits, lacksWait, isHeld, allFit}
+use Rattle.figures.specs.Figures.{isSection}
 use Rattle.listing.specs.Listing.{wVerdict, wAll, wFits, wLate, line, answerFields, taskFields, waitFields, vcpuLine, waitLine, waitLines, taskLine, taskLines, rising, allLine, listing, refusedLine, readText, verdictText}
 use Rattle.listing_order.specs.Digits.{one-digit, two-digits, seven-digits, fieldSize, line-length}
 use Rattle.listing_order.specs.RisingLaws.{rising-flat, length-flat}
@@ -131,7 +133,7 @@ module _ (s : System) where
     wait-lines-bound : (i : ℕ) (ls : List Lock) → i + length ls ≤ 10 → length (waitLines s k i ls) ≤ length ls * 28
     unfolding waitLines
     wait-lines-bound i [] b = omega arith
-    wait-lines-bound i (l ∷ ls) b = go (global (s .mutexes) (l .m)) (wait-lines-bound (i + 1) ls (omega arith))
+    wait-lines-bound i (l ∷ ls) b = go (isSection s l) (wait-lines-bound (i + 1) ls (omega arith))
       where
         go : (t : Bool) → length (waitLines s k (i + 1) ls) ≤ length ls * 28
             → length (elim t [ true ↦ waitLine s k i l | false ↦ [] ] ++ waitLines s k (i + 1) ls) ≤ suc (length ls) * 28

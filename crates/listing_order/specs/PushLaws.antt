@@ -16,6 +16,7 @@ use Rattle.laws.specs.Range.{flatTo}
 use Rattle.laws.specs.Rows.{rows}
 use Rattle.laws.specs.RowLaws.{rows-length, rows-same}
 use Rattle.plan.specs.Plan.{Task}
+use Rattle.plan.specs.Limits.{mostTasks}
 use Rattle.plan_tables.specs.Layout.{taskRow}
 use Rattle.plan_tables.specs.declared.PlanRecord.{PlanRecord}
 use Rattle.figures.specs.Tabled.{systemIn}
@@ -53,7 +54,7 @@ tasks-length ts order k = rows-length k _
 
 -- there is room for a row that is asked for
 pub pushed-room : {t : ℕ} {order : List ℕ} {k : ℕ} (q : Task → Bool) (x : Task) {b : Bool} → b ≡ q x → b ≡ true
-    → Placed t order k → k + length (only q (x ∷ [])) ≤ 64 → k < length order
+    → Placed t order k → k + length (only q (x ∷ [])) ≤ mostTasks → k < length order
 unfolding only
 pushed-room q x e f h r = omega (arith, ap length (only-in q x [] (sym e ∙ f)))
 
@@ -92,7 +93,7 @@ module _ {ts : List ℕ} {t : ℕ} {before : List ℕ} {k : ℕ} (grown more : �
   pub growing-none : Placed t before k → grown 0 ≡ [] → Growing ts t before k grown n before k 0
   growing-none h e = record { rounds = omega arith; added = record { placed = h; is = rw (e, append-nil) } }
 
-  pub growing-room : {order : List ℕ} {e i : ℕ} → Growing ts t before k grown n order e i → i < n → k + length (grown n) ≤ 64 → e + length (more i) ≤ 64
+  pub growing-room : {order : List ℕ} {e i : ℕ} → Growing ts t before k grown n order e i → i < n → k + length (grown n) ≤ mostTasks → e + length (more i) ≤ mostTasks
   growing-room {order} {e} {i} h l r =
       let count : length (tasksAt ts order e) ≡ length (tasksAt ts before k) + length (grown i) = ap length (h .added .is) ∙ length-append (tasksAt ts before k) (grown i) in
       omega (arith, count, tasks-length ts order e, tasks-length ts before k, grows grown more next n i l)

@@ -8,7 +8,7 @@ use lib.ListN.{length, getD}
 use Rattle.laws.specs.Sums.{only}
 use Rattle.laws.specs.Range.{flatTo}
 use Rattle.laws.specs.Rows.{rows}
-use Rattle.plan.specs.Limits.{maxN}
+use Rattle.plan.specs.Limits.{maxN, mostTasks}
 use Rattle.plan.specs.Plan.{Task}
 use Rattle.plan_tables.specs.Layout.{taskRow}
 use Rattle.figures.specs.System.{System}
@@ -31,7 +31,7 @@ tasksAt ts order k = rows k (λ i. taskRow ts (getD order i 0))
 
 -- there is room for every task, and the first k numbers of `order` are places of a table of t rows
 pub record Placed (t : ℕ) (order : List ℕ) (k : ℕ) : Type 0 where
-  pub long : 64 ≤ length order
+  pub long : mostTasks ≤ length order
   pub within : (i : ℕ) → i < k → getD order i 0 < t
 
 -- `more` was added to the tasks at the places that were there before

@@ -12,7 +12,7 @@ use lib.ListN.{length, length-append}
 use Rattle.laws.specs.BoolLaws.{both, miss-right}
 use Rattle.laws.specs.Choice.{when}
 use Rattle.laws.specs.Sums.{sum, flat, Each}
-use Rattle.laws.specs.SumLaws.{sum-append, sum-both, sum-same, sum-rises, sum-only, when-le}
+use Rattle.laws.specs.SumLaws.{sum-append, sum-both, sum-same, sum-rises, sum-only, when-le, when-and}
 use Rattle.laws.specs.Range.{flatTo}
 use Rattle.plan.specs.Limits.{maxV, maxN}
 use Rattle.plan.specs.Plan.{Task}
@@ -52,13 +52,6 @@ when-true x = when-in x refl
 
 when-false : (x : ℕ) → when false x ≡ 0
 when-false x = when-out x refl
-
-when-both : (a b : Bool) (x : ℕ) → when (a && b) x ≡ when b (when a x)
-unfolding when
-when-both true true x = refl
-when-both true false x = refl
-when-both false true x = refl
-when-both false false x = refl
 
 when-swap : (a b : Bool) (x : ℕ) → when a (when b x) ≡ when b (when a x)
 unfolding when
@@ -123,7 +116,7 @@ module _ (g : Task → ℕ) (s : System) where
       bucket-sum g (λ k. when (within (k .n) 1 maxN) (g k)) (λ k. k .v) (s .tasks) _
       (λ v.
       bucket-sum g (λ k. when (eqb (k .v) v) (g k)) (λ k. k .n) (s .tasks) _
-      (λ n. sum-only (λ k. eqb (k .v) v && eqb (k .n) n) g (s .tasks) ∙ sum-same (s .tasks) (λ k. when-both (eqb (k .v) v) (eqb (k .n) n) (g k)))
+      (λ n. sum-only (λ k. eqb (k .v) v && eqb (k .n) n) g (s .tasks) ∙ sum-same (s .tasks) (λ k. when-and (eqb (k .v) v) (eqb (k .n) n) (g k)))
       maxN
       ∙ sum-same (s .tasks) (λ k. when-swap (within (k .n) 1 maxN) (eqb (k .v) v) (g k)))
       maxV

@@ -6,6 +6,7 @@ ghost use lib.ListN.{length};
 ghost use Rattle.laws.specs.Sums.{only};
 ghost use Rattle.plan_tables.specs.Layout.{taskRow};
 ghost use Rattle.figures.specs.Tabled.{Fit, systemIn};
+ghost use Rattle.plan.specs.Limits.{mostTasks};
 ghost use Rattle.listing_order.specs.Ordered.{Ordered};
 ghost use Rattle.listing_order.specs.Pushed.{isTask, named, ofVcpu, tasksAt, Placed, Added};
 
@@ -21,7 +22,7 @@ fn push_one(
     order: &mut [u64],
     k: usize,
 ) -> usize
-    requires { ⌜ Fit r (now vt) (now mt) (now ts) × (i < r .tasks) × Placed (r .tasks) (now order) k × (k + length (only (isTask v n) (taskRow (now ts) i ∷ [])) ≤ 64) ⌝ }
+    requires { ⌜ Fit r (now vt) (now mt) (now ts) × (i < r .tasks) × Placed (r .tasks) (now order) k × (k + length (only (isTask v n) (taskRow (now ts) i ∷ [])) ≤ mostTasks) ⌝ }
     ensures { λ e. ⌜ Added (now (ts .entry)) (r .tasks) (tasksAt (now (ts .entry)) (now (order .entry)) k) (only (isTask v n) (taskRow (now (ts .entry)) i ∷ [])) (now (order .exit)) e ⌝ }
 {
     if !figures_cells::row_task(r, vt, mt, ts, i, v, n) {
@@ -42,7 +43,7 @@ fn push_named(
     order: &mut [u64],
     k: usize,
 ) -> usize
-    requires { ⌜ Fit r (now vt) (now mt) (now ts) × Placed (r .tasks) (now order) k × (k + length (named (systemIn r (now vt) (now mt) (now ts)) v n) ≤ 64) ⌝ }
+    requires { ⌜ Fit r (now vt) (now mt) (now ts) × Placed (r .tasks) (now order) k × (k + length (named (systemIn r (now vt) (now mt) (now ts)) v n) ≤ mostTasks) ⌝ }
     ensures { λ e. ⌜ Added (now (ts .entry)) (r .tasks) (tasksAt (now (ts .entry)) (now (order .entry)) k) (named (systemIn r (now (vt .entry)) (now (mt .entry)) (now (ts .entry))) v n) (now (order .exit)) e ⌝ }
 {
     let count = r.tasks;
@@ -65,7 +66,7 @@ fn push_vcpu(
     order: &mut [u64],
     k: usize,
 ) -> usize
-    requires { ⌜ Fit r (now vt) (now mt) (now ts) × Placed (r .tasks) (now order) k × (k + length (ofVcpu (systemIn r (now vt) (now mt) (now ts)) v) ≤ 64) ⌝ }
+    requires { ⌜ Fit r (now vt) (now mt) (now ts) × Placed (r .tasks) (now order) k × (k + length (ofVcpu (systemIn r (now vt) (now mt) (now ts)) v) ≤ mostTasks) ⌝ }
     ensures { λ e. ⌜ Added (now (ts .entry)) (r .tasks) (tasksAt (now (ts .entry)) (now (order .entry)) k) (ofVcpu (systemIn r (now (vt .entry)) (now (mt .entry)) (now (ts .entry))) v) (now (order .exit)) e ⌝ }
 {
     let mut e = k;
@@ -79,7 +80,7 @@ fn push_vcpu(
 
 // Writes the places of the tasks, as they rise; returns how many there are.
 pub fn rising(r: PlanRecord, vt: &[u64], mt: &[u64], ts: &[u64], order: &mut [u64]) -> usize
-    requires { ⌜ Fit r (now vt) (now mt) (now ts) × (64 ≤ length (now order)) ⌝ }
+    requires { ⌜ Fit r (now vt) (now mt) (now ts) × (mostTasks ≤ length (now order)) ⌝ }
     ensures { λ n. ⌜ Ordered (systemIn r (now (vt .entry)) (now (mt .entry)) (now (ts .entry))) (now (ts .entry)) (now (order .exit)) (r .tasks) n ⌝ }
 {
     let mut e = 0;

@@ -3,13 +3,14 @@ use plan_tables::PlanRecord;
 ghost use Prim.Native.Nat.{_<_, _≤_};
 ghost use lib.ListN.{length};
 ghost use Rattle.laws.specs.Sums.{flat};
-ghost use Rattle.plan_tables.specs.Layout.{cell, vcpuRow, lockRow, taskRow};
+ghost use Rattle.plan_tables.specs.Layout.{cell, vcpuRow, lockRow, taskRow, taskWidth};
 ghost use Rattle.figures.specs.Tabled.{Fit, systemIn};
 ghost use Rattle.listing.specs.Listing.{vcpuLine, waitLines, taskLines, rising, listing};
 ghost use Rattle.text_letters.specs.Wrote.{Wrote};
 ghost use Rattle.listing_order.specs.Ordered.{Ordered};
 ghost use Rattle.answers_told.specs.Read.{VcpuAnswersIn, WaitAnswersIn, TaskAnswersIn, AnswersIn};
 ghost use Rattle.listing_sizes.specs.Texts.{placeText, tasksEnd, vcpusEnd};
+ghost use Rattle.plan.specs.Limits.{mostTasks};
 
 // Writes the line of VCPU row a.
 fn put_vcpu(
@@ -56,7 +57,7 @@ fn put_wait(
     j: usize,
     out: &mut [u8],
 ) -> usize
-    requires { ⌜ Fit r (now vt) (now mt) (now ts) × WaitAnswersIn r (now vt) (now mt) (now ts) (now wa) × (i < r .tasks) × (j < 8) × (j < cell (now ts) 29 i 4) × (length (placeText (systemIn r (now vt) (now mt) (now ts)) (taskRow (now ts) i) (lockRow (now ts) i) j) ≤ length (now out)) ⌝ }
+    requires { ⌜ Fit r (now vt) (now mt) (now ts) × WaitAnswersIn r (now vt) (now mt) (now ts) (now wa) × (i < r .tasks) × (j < 8) × (j < cell (now ts) taskWidth i 4) × (length (placeText (systemIn r (now vt) (now mt) (now ts)) (taskRow (now ts) i) (lockRow (now ts) i) j) ≤ length (now out)) ⌝ }
     ensures { λ k. ⌜ Wrote (placeText (systemIn r (now (vt .entry)) (now (mt .entry)) (now (ts .entry))) (taskRow (now (ts .entry)) i) (lockRow (now (ts .entry)) i) j) (now (out .entry)) (now (out .exit)) k ⌝ }
 {
     if !listing_sizes::is_wait(r, vt, mt, ts, i, j) {
@@ -125,7 +126,7 @@ fn put_tasks(
     n: usize,
     out: &mut [u8],
 ) -> usize
-    requires { ⌜ Fit r (now vt) (now mt) (now ts) × WaitAnswersIn r (now vt) (now mt) (now ts) (now wa) × TaskAnswersIn r (now vt) (now mt) (now ts) (now ta) × Ordered (systemIn r (now vt) (now mt) (now ts)) (now ts) (now order) (r .tasks) n × (64 ≤ length (now order)) × (length (flat (taskLines (systemIn r (now vt) (now mt) (now ts))) (rising (systemIn r (now vt) (now mt) (now ts)))) ≤ length (now out)) ⌝ }
+    requires { ⌜ Fit r (now vt) (now mt) (now ts) × WaitAnswersIn r (now vt) (now mt) (now ts) (now wa) × TaskAnswersIn r (now vt) (now mt) (now ts) (now ta) × Ordered (systemIn r (now vt) (now mt) (now ts)) (now ts) (now order) (r .tasks) n × (mostTasks ≤ length (now order)) × (length (flat (taskLines (systemIn r (now vt) (now mt) (now ts))) (rising (systemIn r (now vt) (now mt) (now ts)))) ≤ length (now out)) ⌝ }
     ensures { λ k. ⌜ Wrote (flat (taskLines (systemIn r (now (vt .entry)) (now (mt .entry)) (now (ts .entry)))) (rising (systemIn r (now (vt .entry)) (now (mt .entry)) (now (ts .entry))))) (now (out .entry)) (now (out .exit)) k ⌝ }
 {
     let mut at = 0;
@@ -152,7 +153,7 @@ fn put_tail(
     n: usize,
     out: &mut [u8],
 ) -> usize
-    requires { ⌜ Fit r (now vt) (now mt) (now ts) × AnswersIn r (now vt) (now mt) (now ts) (now va) (now wa) (now ta) × Ordered (systemIn r (now vt) (now mt) (now ts)) (now ts) (now order) (r .tasks) n × (64 ≤ length (now order)) × (length (tasksEnd (systemIn r (now vt) (now mt) (now ts))) ≤ length (now out)) ⌝ }
+    requires { ⌜ Fit r (now vt) (now mt) (now ts) × AnswersIn r (now vt) (now mt) (now ts) (now va) (now wa) (now ta) × Ordered (systemIn r (now vt) (now mt) (now ts)) (now ts) (now order) (r .tasks) n × (mostTasks ≤ length (now order)) × (length (tasksEnd (systemIn r (now vt) (now mt) (now ts))) ≤ length (now out)) ⌝ }
     ensures { λ k. ⌜ Wrote (tasksEnd (systemIn r (now (vt .entry)) (now (mt .entry)) (now (ts .entry)))) (now (out .entry)) (now (out .exit)) k ⌝ }
 {
     let fits = answers_told::all_fit(r, vt, mt, ts, va, ta);
@@ -173,7 +174,7 @@ fn put_body(
     n: usize,
     out: &mut [u8],
 ) -> usize
-    requires { ⌜ Fit r (now vt) (now mt) (now ts) × AnswersIn r (now vt) (now mt) (now ts) (now va) (now wa) (now ta) × Ordered (systemIn r (now vt) (now mt) (now ts)) (now ts) (now order) (r .tasks) n × (64 ≤ length (now order)) × (length (vcpusEnd (systemIn r (now vt) (now mt) (now ts))) ≤ length (now out)) ⌝ }
+    requires { ⌜ Fit r (now vt) (now mt) (now ts) × AnswersIn r (now vt) (now mt) (now ts) (now va) (now wa) (now ta) × Ordered (systemIn r (now vt) (now mt) (now ts)) (now ts) (now order) (r .tasks) n × (mostTasks ≤ length (now order)) × (length (vcpusEnd (systemIn r (now vt) (now mt) (now ts))) ≤ length (now out)) ⌝ }
     ensures { λ k. ⌜ Wrote (vcpusEnd (systemIn r (now (vt .entry)) (now (mt .entry)) (now (ts .entry)))) (now (out .entry)) (now (out .exit)) k ⌝ }
 {
     let k = put_vcpus(r, vt, mt, ts, va, out);
@@ -193,7 +194,7 @@ pub fn put_listing(
     n: usize,
     out: &mut [u8],
 ) -> usize
-    requires { ⌜ Fit r (now vt) (now mt) (now ts) × AnswersIn r (now vt) (now mt) (now ts) (now va) (now wa) (now ta) × Ordered (systemIn r (now vt) (now mt) (now ts)) (now ts) (now order) (r .tasks) n × (64 ≤ length (now order)) × (length (listing (systemIn r (now vt) (now mt) (now ts))) ≤ length (now out)) ⌝ }
+    requires { ⌜ Fit r (now vt) (now mt) (now ts) × AnswersIn r (now vt) (now mt) (now ts) (now va) (now wa) (now ta) × Ordered (systemIn r (now vt) (now mt) (now ts)) (now ts) (now order) (r .tasks) n × (mostTasks ≤ length (now order)) × (length (listing (systemIn r (now vt) (now mt) (now ts))) ≤ length (now out)) ⌝ }
     ensures { λ k. ⌜ Wrote (listing (systemIn r (now (vt .entry)) (now (mt .entry)) (now (ts .entry)))) (now (out .entry)) (now (out .exit)) k ⌝ }
 {
     let k = listing_lines::head_line(out);

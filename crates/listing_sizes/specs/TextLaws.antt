@@ -11,14 +11,16 @@ use Rattle.laws.specs.Rows.{rows, Summed}
 use Rattle.laws.specs.RowLaws.{rows-length, summed-more, summed-all}
 use Rattle.search.specs.declared.Answer.{Answer}
 use Rattle.search.specs.TableLaws.{flat-next}
-use Rattle.plan.specs.Plan.{Lock, Task, Mutex}
+use Rattle.plan.specs.declared.Lock.{Lock}
+use Rattle.plan.specs.Plan.{Task, Mutex}
 use Rattle.plan.specs.Lookup.{global}
 use Rattle.plan_tables.specs.declared.PlanRecord.{PlanRecord}
-use Rattle.plan_tables.specs.Layout.{cell, vcpuRow, lockRow, taskRow}
+use Rattle.plan_tables.specs.Layout.{cell, vcpuRow, lockRow, taskRow, taskWidth}
 use Rattle.figures.specs.System.{System}
 use Rattle.figures.specs.Tabled.{systemIn}
 use Rattle.figures.specs.declared.TaskAnswer.{TaskAnswer}
 use Rattle.figures.specs.Answers.{waitAnswer, allFit}
+use Rattle.figures.specs.Figures.{isSection}
 use Rattle.listing.specs.Listing.{vcpuLine, waitLine, waitLines, taskLine, taskLines, rising, allLine, listing}
 use Rattle.text_letters.specs.Wrote.{Joins, Sized}
 use Rattle.listing_lines.specs.Lines.{headText, vcpuText, waitText, taskText, allText}
@@ -31,7 +33,7 @@ use Rattle.listing_sizes.specs.Texts.{picked, placeText, tasksEnd, vcpus
 -- LINES, of a row's numbers and its answer
 
 -- whether a lock's mutex is global
-pub wait-is : (ms : List Mutex) (ts : List ℕ) (i j : ℕ) {m : ℕ} {b : Bool} → m ≡ cell ts 29 i (5 + (j * 3 + 0)) → b ≡ global ms m → b ≡ global ms (lockRow ts i j .m)
+pub wait-is : (ms : List Mutex) (ts : List ℕ) (i j : ℕ) {m : ℕ} {b : Bool} → m ≡ cell ts taskWidth i (5 + (j * 3 + 0)) → b ≡ global ms m → b ≡ global ms (lockRow ts i j .m)
 unfolding lockRow
 wait-is ms ts i j d g = g ∙ ap (global ms) d
 
@@ -41,24 +43,24 @@ module _ {r : PlanRecord} {vt mt ts : List ℕ} where
   unfolding vcpuRow
   vcpu-text h a l e f = vcpu-line (systemIn r vt mt ts) (vcpuRow vt a) ∙ rw (e, f, h .at a l)
 
-  pub task-text : {ta : List ℕ} → TaskAnswersIn r vt mt ts ta → (i : ℕ) {v n : ℕ} {x : TaskAnswer} → i < r .tasks → v ≡ cell ts 29 i 0 → n ≡ cell ts 29 i 1
+  pub task-text : {ta : List ℕ} → TaskAnswersIn r vt mt ts ta → (i : ℕ) {v n : ℕ} {x : TaskAnswer} → i < r .tasks → v ≡ cell ts taskWidth i 0 → n ≡ cell ts taskWidth i 1
       → x ≡ taskAnswerIn ta i → taskLine (systemIn r vt mt ts) (taskRow ts i) ≡ taskText v n x
   unfolding taskRow
   task-text h i l e f g = task-line (systemIn r vt mt ts) (taskRow ts i) ∙ rw (e, f, g, h .at i l)
 
-  -- b says whether the lock's mutex is global
-  module _ {wa : List ℕ} (h : WaitAnswersIn r vt mt ts wa) (i j : ℕ) {b : Bool} (section : b ≡ global (systemIn r vt mt ts .mutexes) (lockRow ts i j .m)) where
+  -- b says whether the lock is a global section
+  module _ {wa : List ℕ} (h : WaitAnswersIn r vt mt ts wa) (i j : ℕ) {b : Bool} (section : b ≡ isSection (systemIn r vt mt ts) (lockRow ts i j)) where
     chosen : {c : Bool} → b ≡ c
         → placeText (systemIn r vt mt ts) (taskRow ts i) (lockRow ts i) j ≡ picked c (waitLine (systemIn r vt mt ts) (taskRow ts i) (j + 1) (lockRow ts i j))
     unfolding placeText
     chosen e = ap (λ y. picked y (waitLine (systemIn r vt mt ts) (taskRow ts i) (j + 1) (lockRow ts i j))) (sym section ∙ e)
 
-    wait-text : {v n : ℕ} {x : Answer} → v ≡ cell ts 29 i 0 → n ≡ cell ts 29 i 1 → x ≡ waitAnswer (systemIn r vt mt ts) (taskRow ts i) (lockRow ts i j)
+    wait-text : {v n : ℕ} {x : Answer} → v ≡ cell ts taskWidth i 0 → n ≡ cell ts taskWidth i 1 → x ≡ waitAnswer (systemIn r vt mt ts) (taskRow ts i) (lockRow ts i j)
         → waitLine (systemIn r vt mt ts) (taskRow ts i) (j + 1) (lockRow ts i j) ≡ waitText v n (j + 1) x
     unfolding taskRow
     wait-text p q f = wait-line (systemIn r vt mt ts) (taskRow ts i) (j + 1) (lockRow ts i j) ∙ rw (p, q, f)
 
-    pub place-text : {v n : ℕ} {x : Answer} → i < r .tasks → j < cell ts 29 i 4 → b ≡ true → v ≡ cell ts 29 i 0 → n ≡ cell ts 29 i 1
+    pub place-text : {v n : ℕ} {x : Answer} → i < r .tasks → j < cell ts taskWidth i 4 → b ≡ true → v ≡ cell ts taskWidth i 0 → n ≡ cell ts taskWidth i 1
         → x ≡ answerIn wa (i * 8 + j) → placeText (systemIn r vt mt ts) (taskRow ts i) (lockRow ts i) j ≡ waitText v n (j + 1) x
     place-text l k e p q f = chosen e ∙ wait-text p q (f ∙ h .at i j l k (sym section ∙ e))
 
@@ -72,7 +74,7 @@ module _ (s : System) where
   unfolding waitLines
   waits-append k i [] ms = ap (λ m. waitLines s k m ms) {x = i} {y = i + 0} (omega arith)
   waits-append k i (l ∷ ls) ms =
-      let a = picked (global (s .mutexes) (l .m)) (waitLine s k i l) in
+      let a = picked (isSection s l) (waitLine s k i l) in
       ap (λ m. a ++ m) (waits-append k (i + 1) ls ms ∙ ap (λ m. waitLines s k (i + 1) ls ++ waitLines s k m ms) {x = i + 1 + length ls} {y = i + suc (length ls)} (omega arith))
       ∙ sym (append-assoc a (waitLines s k (i + 1) ls) (waitLines s k (i + suc (length ls)) ms))
 
@@ -85,14 +87,14 @@ module _ (s : System) where
       ∙ sym (flat-next (placeText s k lock) (λ j. j) n)
       ∙ ap (λ m. flat (placeText s k lock) (rows m (λ j. j))) (add-one n)
     where
-      last : (m : ℕ) → m ≡ n → picked (global (s .mutexes) (lock n .m)) (waitLine s k (1 + m) (lock n)) ≡ placeText s k lock n
-      last m e = ap (λ x. picked (global (s .mutexes) (lock n .m)) (waitLine s k x (lock n))) {x = 1 + m} {y = n + 1} (omega arith)
+      last : (m : ℕ) → m ≡ n → picked (isSection s (lock n)) (waitLine s k (1 + m) (lock n)) ≡ placeText s k lock n
+      last m e = ap (λ x. picked (isSection s (lock n)) (waitLine s k x (lock n))) {x = 1 + m} {y = n + 1} (omega arith)
 
   -- the waits of task i are those of its places
-  pub waits-text : (ts : List ℕ) (i : ℕ) {n : ℕ} → n ≡ cell ts 29 i 4
+  pub waits-text : (ts : List ℕ) (i : ℕ) {n : ℕ} → n ≡ cell ts taskWidth i 4
       → waitLines s (taskRow ts i) 1 (taskRow ts i .locks) ≡ flat (placeText s (taskRow ts i) (lockRow ts i)) (rows n (λ j. j))
   unfolding taskRow
-  waits-text ts i e = rw e (waits-rows (taskRow ts i) (lockRow ts i) (cell ts 29 i 4))
+  waits-text ts i e = rw e (waits-rows (taskRow ts i) (lockRow ts i) (cell ts taskWidth i 4))
 
   -- a task's line stands behind its waits
   pub task-joins : (k : Task) → Joins (taskLines s k) (waitLines s k 1 (k .locks)) (taskLine s k)

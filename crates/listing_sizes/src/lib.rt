@@ -4,13 +4,14 @@ ghost use mathlib.Core.Path.{_≡_};
 ghost use Prim.Native.Nat.{_<_, _≤_};
 ghost use lib.ListN.{length};
 ghost use Rattle.laws.specs.Sums.{flat};
-ghost use Rattle.plan.specs.Lookup.{global};
-ghost use Rattle.plan_tables.specs.Layout.{cell, vcpuRow, lockRow, taskRow};
+ghost use Rattle.plan_tables.specs.Layout.{cell, vcpuRow, lockRow, taskRow, taskWidth};
 ghost use Rattle.figures.specs.Tabled.{Fit, systemIn};
+ghost use Rattle.figures.specs.Figures.{isSection};
 ghost use Rattle.listing.specs.Listing.{vcpuLine, waitLines, taskLines, rising, listing};
 ghost use Rattle.text_letters.specs.Wrote.{Sized};
 ghost use Rattle.listing_order.specs.Ordered.{Ordered};
 ghost use Rattle.answers_told.specs.Read.{VcpuAnswersIn, WaitAnswersIn, TaskAnswersIn, AnswersIn};
+ghost use Rattle.plan.specs.Limits.{mostTasks};
 ghost use Rattle.listing_sizes.specs.Texts.{placeText};
 
 // The size of the line of VCPU row a.
@@ -39,10 +40,10 @@ fn size_vcpus(r: PlanRecord, vt: &[u64], mt: &[u64], ts: &[u64], va: &[u64]) -> 
     s
 }
 
-// Is the mutex of the lock at place j of task i global?
+// Is the lock at place j of task i a global section?
 pub fn is_wait(r: PlanRecord, vt: &[u64], mt: &[u64], ts: &[u64], i: usize, j: usize) -> bool
     requires { ⌜ Fit r (now vt) (now mt) (now ts) × (i < r .tasks) × (j < 8) ⌝ }
-    ensures { λ x. ⌜ x ≡ global (systemIn r (now (vt .entry)) (now (mt .entry)) (now (ts .entry)) .mutexes) (lockRow (now (ts .entry)) i j .m) ⌝ }
+    ensures { λ x. ⌜ x ≡ isSection (systemIn r (now (vt .entry)) (now (mt .entry)) (now (ts .entry))) (lockRow (now (ts .entry)) i j) ⌝ }
 {
     let m = figures_cells::lock_cell(r, vt, mt, ts, i, j, 0);
     figures_cells::is_global(r, vt, mt, ts, m)
@@ -58,7 +59,7 @@ fn size_wait(
     i: usize,
     j: usize,
 ) -> usize
-    requires { ⌜ Fit r (now vt) (now mt) (now ts) × WaitAnswersIn r (now vt) (now mt) (now ts) (now wa) × (i < r .tasks) × (j < 8) × (j < cell (now ts) 29 i 4) ⌝ }
+    requires { ⌜ Fit r (now vt) (now mt) (now ts) × WaitAnswersIn r (now vt) (now mt) (now ts) (now wa) × (i < r .tasks) × (j < 8) × (j < cell (now ts) taskWidth i 4) ⌝ }
     ensures { λ x. ⌜ Sized (placeText (systemIn r (now (vt .entry)) (now (mt .entry)) (now (ts .entry))) (taskRow (now (ts .entry)) i) (lockRow (now (ts .entry)) i) j) 110 x ⌝ }
 {
     if !is_wait(r, vt, mt, ts, i, j) {
@@ -117,7 +118,7 @@ fn size_tasks(
     order: &[u64],
     n: usize,
 ) -> usize
-    requires { ⌜ Fit r (now vt) (now mt) (now ts) × WaitAnswersIn r (now vt) (now mt) (now ts) (now wa) × TaskAnswersIn r (now vt) (now mt) (now ts) (now ta) × Ordered (systemIn r (now vt) (now mt) (now ts)) (now ts) (now order) (r .tasks) n × (64 ≤ length (now order)) ⌝ }
+    requires { ⌜ Fit r (now vt) (now mt) (now ts) × WaitAnswersIn r (now vt) (now mt) (now ts) (now wa) × TaskAnswersIn r (now vt) (now mt) (now ts) (now ta) × Ordered (systemIn r (now vt) (now mt) (now ts)) (now ts) (now order) (r .tasks) n × (mostTasks ≤ length (now order)) ⌝ }
     ensures { λ x. ⌜ Sized (flat (taskLines (systemIn r (now (vt .entry)) (now (mt .entry)) (now (ts .entry)))) (rising (systemIn r (now (vt .entry)) (now (mt .entry)) (now (ts .entry))))) 62464 x ⌝ }
 {
     let mut s = 0;
@@ -142,7 +143,7 @@ pub fn listing_size(
     order: &[u64],
     n: usize,
 ) -> usize
-    requires { ⌜ Fit r (now vt) (now mt) (now ts) × AnswersIn r (now vt) (now mt) (now ts) (now va) (now wa) (now ta) × Ordered (systemIn r (now vt) (now mt) (now ts)) (now ts) (now order) (r .tasks) n × (64 ≤ length (now order)) ⌝ }
+    requires { ⌜ Fit r (now vt) (now mt) (now ts) × AnswersIn r (now vt) (now mt) (now ts) (now va) (now wa) (now ta) × Ordered (systemIn r (now vt) (now mt) (now ts)) (now ts) (now order) (r .tasks) n × (mostTasks ≤ length (now order)) ⌝ }
     ensures { λ x. ⌜ Sized (listing (systemIn r (now (vt .entry)) (now (mt .entry)) (now (ts .entry)))) 63683 x ⌝ }
 {
     let fits = answers_told::all_fit(r, vt, mt, ts, va, ta);

@@ -7,6 +7,8 @@ ghost use Prim.Native.Nat.{_*_, _≤_};
 ghost use lib.Dec.{leb};
 ghost use lib.ListN.{length};
 ghost use Rattle.plan.specs.declared.Refusal.the-variants.{Room, Foreign};
+ghost use Rattle.plan.specs.Limits.{mostTasks};
+ghost use Rattle.plan_tables.specs.Layout.{lent};
 ghost use Rattle.figures.specs.Tabled.{Fit, systemIn};
 ghost use Rattle.listing.specs.Listing.{listing};
 ghost use Rattle.listing_lines.specs.declared.TextAnswer.the-variants.{Written, Refused};
@@ -16,7 +18,7 @@ ghost use Rattle.answers_told.specs.Read.{AnswersIn};
 ghost use Rattle.listing_asked.specs.Asked.{listingAsked, listingLeft};
 
 // Has a buffer of `room` bytes room for the listing?
-fn roomy(
+fn has_room(
     r: PlanRecord,
     vt: &[u64],
     mt: &[u64],
@@ -28,7 +30,7 @@ fn roomy(
     n: usize,
     room: usize,
 ) -> bool
-    requires { ⌜ Fit r (now vt) (now mt) (now ts) × AnswersIn r (now vt) (now mt) (now ts) (now va) (now wa) (now ta) × Ordered (systemIn r (now vt) (now mt) (now ts)) (now ts) (now order) (r .tasks) n × (64 ≤ length (now order)) ⌝ }
+    requires { ⌜ Fit r (now vt) (now mt) (now ts) × AnswersIn r (now vt) (now mt) (now ts) (now va) (now wa) (now ta) × Ordered (systemIn r (now vt) (now mt) (now ts)) (now ts) (now order) (r .tasks) n × (mostTasks ≤ length (now order)) ⌝ }
     ensures { λ b. ⌜ b ≡ leb (length (listing (systemIn r (now (vt .entry)) (now (mt .entry)) (now (ts .entry))))) room ⌝ }
 {
     let size = listing_sizes::listing_size(r, vt, mt, ts, va, wa, ta, order, n);
@@ -66,12 +68,12 @@ fn put_answered(
     n: usize,
     out: &mut [u8],
 ) -> TextAnswer
-    requires { ⌜ Fit r (now vt) (now mt) (now ts) × AnswersIn r (now vt) (now mt) (now ts) (now va) (now wa) (now ta) × Ordered (systemIn r (now vt) (now mt) (now ts)) (now ts) (now order) (r .tasks) n × (64 ≤ length (now order)) ⌝ }
+    requires { ⌜ Fit r (now vt) (now mt) (now ts) × AnswersIn r (now vt) (now mt) (now ts) (now va) (now wa) (now ta) × Ordered (systemIn r (now vt) (now mt) (now ts)) (now ts) (now order) (r .tasks) n × (mostTasks ≤ length (now order)) ⌝ }
     ensures { λ a. ⌜ a ≡ textAnswer (listing (systemIn r (now (vt .entry)) (now (mt .entry)) (now (ts .entry)))) (now (out .entry)) ⌝ }
     ensures { λ a. ⌜ now (out .exit) ≡ textAfter (listing (systemIn r (now (vt .entry)) (now (mt .entry)) (now (ts .entry)))) (now (out .entry)) ⌝ }
 {
     let m = out.len();
-    if !roomy(r, vt, mt, ts, va, wa, ta, order, n, m) {
+    if !has_room(r, vt, mt, ts, va, wa, ta, order, n, m) {
         return no_room();
     }
     let k = listing_pages::put_listing(r, vt, mt, ts, va, wa, ta, order, n, out);
@@ -151,8 +153,8 @@ pub fn write_listing(
     ts: &[u64],
     out: &mut [u8],
 ) -> TextAnswer
-    ensures { λ a. ⌜ a ≡ listingAsked r (record { vcpus = now (vt .entry); mutexes = now (mt .entry); opens = now (ot .entry); tasks = now (ts .entry) }) (now (out .entry)) ⌝ }
-    ensures { λ a. ⌜ now (out .exit) ≡ listingLeft r (record { vcpus = now (vt .entry); mutexes = now (mt .entry); opens = now (ot .entry); tasks = now (ts .entry) }) (now (out .entry)) ⌝ }
+    ensures { λ a. ⌜ a ≡ listingAsked r (lent (now (vt .entry)) (now (mt .entry)) (now (ot .entry)) (now (ts .entry))) (now (out .entry)) ⌝ }
+    ensures { λ a. ⌜ now (out .exit) ≡ listingLeft r (lent (now (vt .entry)) (now (mt .entry)) (now (ot .entry)) (now (ts .entry))) (now (out .entry)) ⌝ }
 {
     if !given_test::is_given(r, vt, mt, ot, ts) {
         return foreign();

@@ -16,7 +16,7 @@ use Rattle.laws.specs.Fields.{before, count, fieldsTo}
 use Rattle.laws.specs.RangeLaws.{highest-le}
 use Rattle.laws.specs.Sums.{flat}
 use Rattle.laws.specs.Steps.{before-le, pieces-fields}
-use Rattle.plan.specs.Limits.{maxV, maxN, maxPeriod, maxLength, maxTasks, tab, lf}
+use Rattle.plan.specs.Limits.{maxV, mostN, maxPeriod, maxLength, mostTasks, tab, lf}
 use Rattle.plan.specs.declared.Kind.{Kind}
 use Rattle.plan.specs.declared.Kind.the-variants.{PlanLine, PolicyPO, PolicyPN, PolicyDO, PolicyDN, VcpuLine, MutexG, MutexL, OpenLine, GuestLine, TaskLine, RunLine, LockLine, EndLine, AskLine, FreeLine, UseLine, TopLine, ShowLine}
 use Rattle.plan.specs.declared.Refusal.the-variants.{Shape, Unknown}
@@ -38,7 +38,7 @@ use Rattle.board_rules.specs.declared.BoardAnswer.{BoardAnswer}
 use Rattle.board_rules.specs.declared.BoardAnswer.the-variants.{Granted, Waits, Freed, Left, Refused}
 use Rattle.board_rules.specs.declared.Outcome.{Outcome}
 use Rattle.board_rules.specs.Board.{seat, leftOf, overOf, waitOf, withLeft, withHolder, withWait, settled, complete, handedTo, grantedLocal, nextOf, waiterV, waiterN, nextGlobal, localN, nextLocal, mayHave, passes, asked, freed, freedGlobal, freedLocal, used, topped, heldGlobal, heldLocal, raisedBy, taskPriority, vcpuPriority, holdsGlobal, shown, answered, askFault, freeFault, useFault, topFault, showFault, step, good}
-use Rattle.board_rules.specs.Events.{eventOf, onEvent, onItem, onLine, lineAnswers, wFreed, wLeft, answerFields, answersText}
+use Rattle.board_rules.specs.Events.{eventOf, onEvent, onItem, onLine, lineAnswers, wFreed, wLeft, answerFields, answersText, repliesTo}
 use Rattle.board_keeps.specs.Fair.{Fair, InV, InN, task-v}
 use Rattle.board_keeps.specs.Good.{good-sound}
 use Rattle.board_keeps.specs.Faults.{free-clear, use-clear, top-clear}
@@ -52,7 +52,7 @@ use Rattle.log_answers.specs.Small.{Small}
 
 record Low (b : Board) : Type 0 where
   left : (v : ℕ) → InV v → leftOf b v ≤ maxPeriod
-  over : (v : ℕ) → InV v → overOf b v ≤ maxTasks * maxLength
+  over : (v : ℕ) → InV v → overOf b v ≤ mostTasks * maxLength
 
 record Fine (o : Outcome) : Type 0 where
   short : Short (o .answer)
@@ -70,10 +70,10 @@ module _ (F : Facts) where
   unfolding settled
   settled-low h = record { left = h .left; over = h .over }
 
-  with-low : {b : Board} (v l o : ℕ) → Low b → l ≤ maxPeriod → o ≤ maxTasks * maxLength → Low (withLeft b v l o)
+  with-low : {b : Board} (v l o : ℕ) → Low b → l ≤ maxPeriod → o ≤ mostTasks * maxLength → Low (withLeft b v l o)
   with-low {b} v l o h p q = record {
     left = λ w i. set-low (b .left) (v - 1) (w - 1) l maxPeriod (h .left w i) p;
-    over = λ w i. set-low (b .over) (v - 1) (w - 1) o (maxTasks * maxLength) (h .over w i) q;
+    over = λ w i. set-low (b .over) (v - 1) (w - 1) o (mostTasks * maxLength) (h .over w i) q;
   }
 
   handed-low : {b : Board} (m : ℕ) (w : Next) → Low b → Low (handedTo b m w)
@@ -93,9 +93,9 @@ module _ (F : Facts) where
   -- the next holder's names are small
   abbrev LowNext : Next → Type 0
   LowNext Nobody = Unit {0}
-  LowNext (To v n) = (v ≤ maxV) × (n ≤ maxN)
+  LowNext (To v n) = (v ≤ maxV) × (n ≤ mostN)
 
-  next-low : (v n : ℕ) → v ≤ maxV → n ≤ maxN → LowNext (nextOf v n)
+  next-low : (v n : ℕ) → v ≤ maxV → n ≤ mostN → LowNext (nextOf v n)
   next-low v n h k = go (eqb n 0)
     where
       go : (t : Bool) → LowNext (if t then Nobody else To v n)
@@ -104,17 +104,17 @@ module _ (F : Facts) where
 
   global-low : (b : Board) (m : ℕ) → LowNext (nextGlobal b m)
   unfolding nextGlobal waiterV waiterN
-  global-low b m = go (eqb (waiterV b m) 0) (waiterV b m) (waiterN b m (waiterV b m)) (highest-le maxV _) (highest-le maxN _)
+  global-low b m = go (eqb (waiterV b m) 0) (waiterV b m) (waiterN b m (waiterV b m)) (highest-le maxV _) (highest-le mostN _)
     where
-      go : (t : Bool) (v n : ℕ) → v ≤ maxV → n ≤ maxN → LowNext (if t then Nobody else nextOf v n)
+      go : (t : Bool) (v n : ℕ) → v ≤ maxV → n ≤ mostN → LowNext (if t then Nobody else nextOf v n)
       go true v n h k = tt
       go false v n h k = next-low v n h k
 
   local-low : (b : Board) (v : ℕ) → v ≤ maxV → LowNext (nextLocal F b v)
   unfolding nextLocal localN
-  local-low b v h = go (passes F b v (localN F b v)) (localN F b v) (highest-le maxN _)
+  local-low b v h = go (passes F b v (localN F b v)) (localN F b v) (highest-le mostN _)
     where
-      go : (t : Bool) (n : ℕ) → n ≤ maxN → LowNext (if t then nextOf v n else Nobody)
+      go : (t : Bool) (n : ℕ) → n ≤ mostN → LowNext (if t then nextOf v n else Nobody)
       go true n k = next-low v n h k
       go false n k = tt
 
@@ -154,11 +154,11 @@ module _ (F : Facts) where
       let k = with-low v (F .budget v) (F .overrun v) h (s .budget v) (s .overrun v) in
       complete-fine _ (left-short v i k) (record { left = k .left; over = k .over })
 
-  task-low : (b : Board) (v n : ℕ) → n ≤ maxN → taskPriority F b v n ≤ 16
+  task-low : (b : Board) (v n : ℕ) → n ≤ mostN → taskPriority F b v n ≤ 16
   unfolding taskPriority raisedBy
-  task-low b v n h = go (heldGlobal F b v n) (eqb (heldLocal F b v n) 0) (raisedBy F b v (heldLocal F b v n)) (highest-le maxN _)
+  task-low b v n h = go (heldGlobal F b v n) (eqb (heldLocal F b v n) 0) (raisedBy F b v (heldLocal F b v n)) (highest-le mostN _)
     where
-      go : (p q : Bool) (r : ℕ) → r ≤ maxN → (if p then 8 + n else (if q then n else max n r)) ≤ 16
+      go : (p q : Bool) (r : ℕ) → r ≤ mostN → (if p then 8 + n else (if q then n else max n r)) ≤ 16
       go true q r k = omega arith
       go false true r k = omega arith
       go false false r k = omega arith
@@ -292,7 +292,7 @@ module _ (F : Facts) (f : Fair F) (s : Small F) where
 
 -- THE BOUND
 pub answers-bound :
-    (F : Facts) (b : Board) (es : List ℕ) → Fair F → Small F → good F b ≡ true → length (answersText (lineAnswers F b (pieces lf es))) ≤ 10 * length es
+    (F : Facts) (b : Board) (es : List ℕ) → Fair F → Small F → good F b ≡ true → length (repliesTo F b es) ≤ 10 * length es
 answers-bound F b es f s g =
     let a = lines-bound F f s b (pieces lf es) (good-low F s b g) in
     let c = ap length (joined-pieces lf es) in omega arith

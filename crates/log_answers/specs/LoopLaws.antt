@@ -21,13 +21,9 @@ use Rattle.board_rules.specs.declared.Board.{Board}
 use Rattle.board_rules.specs.declared.BoardAnswer.{BoardAnswer}
 use Rattle.board_rules.specs.declared.BoardAnswer.the-variants.{Refused}
 use Rattle.board_rules.specs.declared.Outcome.{Outcome}
-use Rattle.board_rules.specs.Events.{onLine, atEnd, lineAnswers, answerFields, answersText}
+use Rattle.board_rules.specs.Events.{onLine, atEnd, lineAnswers, answerFields, answersText, repliesTo}
 use Rattle.log_replies.specs.Parts.{endText}
 use Rattle.log_replies.specs.PartsLaws.{end-none, end-some}
-
--- the answers to the lines of s, on the board b
-abbrev pub repliesTo : Facts → Board → List ℕ → List ℕ
-repliesTo F b s = answersText (lineAnswers F b (pieces lf s))
 
 pub end-text : (l : List ℕ) → answersText (atEnd l) ≡ endText (length l)
 unfolding answersText flat

@@ -1,47 +1,35 @@
 -- The budgets and overruns of a valid plan are small.
 use Prim.Native.Nat.{ℕ, _*_, _≤_}
-use mathlib.Core.Bool.{Bool, true, false}
-use mathlib.Core.List.{List, [], _∷_}
 use native.Mathlib.Omega.{arith}
 use lib.Dec.{eqb}
 use Rattle.laws.specs.Choice.{when}
-use Rattle.laws.specs.Sums.{first, Each}
-use Rattle.laws.specs.SumLaws.{when-le, sum-rises-on, sum-bound, greatest-rises-on, greatest-bound, each-map}
-use Rattle.plan.specs.Limits.{maxPeriod, maxLength, maxTasks}
+use Rattle.laws.specs.Sums.{Each}
+use Rattle.laws.specs.SumLaws.{when-le, sum-rises-on, sum-bound, greatest-rises-on, greatest-bound, each-map, first-each}
+use Rattle.plan.specs.Limits.{maxPeriod, maxLength, mostTasks}
 use Rattle.plan.specs.declared.OverrunChoice.{OverrunChoice}
 use Rattle.plan.specs.declared.OverrunChoice.the-variants.{WithOverrun, WithoutOverrun}
-use Rattle.plan.specs.Plan.{Lock, Task, Plan, tasksOf}
-use Rattle.plan.specs.Lookup.{global}
+use Rattle.plan.specs.declared.Lock.{Lock}
+use Rattle.plan.specs.Plan.{Task, Plan, tasksOf}
 use Rattle.plan.specs.Valid.{LockValid, TaskValid, Valid}
 use Rattle.plan_tables.specs.GivenLaws.{tasks-valid}
 use Rattle.figures.specs.System.{system}
-use Rattle.figures.specs.Figures.{vcpuAt, noVcpu, globalTicks, longestGlobal, ght, overrunBy, overrunOf}
+use Rattle.figures.specs.Figures.{vcpuAt, noVcpu, globalTicks, longestGlobal, ght, overrunBy, overrunOf, isSection}
 use Rattle.board_rules.specs.Facts.{Facts, factsOf}
 
 -- a budget is at most a period, an overrun at most the longest section of each of 64 tasks
 pub record Small (F : Facts) : Type 0 where
   pub budget : (v : ℕ) → F .budget v ≤ maxPeriod
-  pub overrun : (v : ℕ) → F .overrun v ≤ maxTasks * maxLength
-
--- what holds of every row and of d holds of the first row that passes
-first-each : {A : Type 0} (f : A → Bool) (P : A → Type 0) (d : A) (xs : List A) → P d → Each P xs → P (first f d xs)
-unfolding first
-first-each f P d [] k h = k
-first-each f P d (x ∷ xs) k h = go (f x) (first-each f P d xs k (h .1))
-  where
-    go : (t : Bool) → P (first f d xs) → P (elim t [ true ↦ x | false ↦ first f d xs ])
-    go true ih = h .0
-    go false ih = ih
+  pub overrun : (v : ℕ) → F .overrun v ≤ mostTasks * maxLength
 
 module _ (p : Plan) (h : Valid p) where
   budget-small : (v : ℕ) → vcpuAt (system p) v .budget ≤ maxPeriod
   unfolding vcpuAt
   budget-small v =
-      first-each (λ x. eqb (x .v) v) (λ x. x .budget ≤ maxPeriod) noVcpu (p .vcpus) (omega arith)
+      first-each (λ x. eqb (x .v) v) (λ x. x .budget ≤ maxPeriod) noVcpu (p .vcpus) (λ q. omega arith)
       (each-map (p .vcpus) (λ x w. let a = w .budget-in in let b = w .period-in in omega arith) (h .vcpus-valid))
 
   lock-small : (g : ℕ) (k : Task) (l : Lock) → LockValid (p .mutexes) (p .opens) g (k .v) l → globalTicks (system p) l ≤ maxLength
-  lock-small g k l w = let a = when-le (global (p .mutexes) (l .m)) (l .ticks) in let b = w .ticks-in in omega arith
+  lock-small g k l w = let a = when-le (isSection (system p) l) (l .ticks) in let b = w .ticks-in in omega arith
 
   longest-small : (g : ℕ) (k : Task) → TaskValid (p .vcpus) (p .mutexes) (p .opens) g k → longestGlobal (system p) k ≤ maxLength
   unfolding longestGlobal
@@ -50,7 +38,7 @@ module _ (p : Plan) (h : Valid p) where
       let b = greatest-bound (k .locks) maxLength {f = λ l. maxLength} (λ l. omega arith) in
       omega arith
 
-  ght-small : (v : ℕ) → ght (system p) v ≤ maxTasks * maxLength
+  ght-small : (v : ℕ) → ght (system p) v ≤ mostTasks * maxLength
   unfolding ght
   ght-small v =
       let e : Each (λ k. when (eqb (k .v) v) (longestGlobal (system p) k) ≤ maxLength) (tasksOf (p .sections)) =
@@ -60,11 +48,11 @@ module _ (p : Plan) (h : Valid p) where
       let c = h .few-tasks in
       omega arith
 
-  overrun-small : (v : ℕ) → overrunOf (system p) v ≤ maxTasks * maxLength
+  overrun-small : (v : ℕ) → overrunOf (system p) v ≤ mostTasks * maxLength
   unfolding overrunOf
   overrun-small v = go (p .overrun) (ght-small v)
     where
-      go : (o : OverrunChoice) {g : ℕ} → g ≤ maxTasks * maxLength → overrunBy o g ≤ maxTasks * maxLength
+      go : (o : OverrunChoice) {g : ℕ} → g ≤ mostTasks * maxLength → overrunBy o g ≤ mostTasks * maxLength
       go WithOverrun l = l
       go WithoutOverrun l = omega arith
 

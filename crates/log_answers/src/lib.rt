@@ -1,6 +1,7 @@
 // Event lines in, answer lines out. What they mean stands in specs/Events of `board_rules`.
 use board_rules::Board;
 use board_rules::BoardAnswer;
+use plan::LF;
 use plan::OverrunChoice;
 use plan::Policy;
 ghost use mathlib.Core.Path.{_≡_};
@@ -8,16 +9,12 @@ ghost use mathlib.Core.List.{_++_};
 ghost use mathlib.Core.Bool.{true};
 ghost use Prim.Native.Nat.{_+_, _≤_};
 ghost use lib.ListN.{length, take};
-ghost use Rattle.laws.specs.Bytes.{pieces};
-ghost use Rattle.plan.specs.Limits.{lf};
 ghost use Rattle.listing.specs.Listing.{line};
 ghost use Rattle.text_letters.specs.Wrote.{Wrote};
 ghost use Rattle.board_rules.specs.View.{factsIn};
-ghost use Rattle.board_rules.specs.Events.{lineAnswers, answerFields, answersText};
+ghost use Rattle.board_rules.specs.Events.{answerFields, repliesTo};
 ghost use Rattle.log_replies.specs.Parts.{endText};
 ghost use Rattle.log_answers.specs.Tells.{toldInto, moving, Space, Adds};
-
-const LF: u8 = 10;
 
 // Is the answer no refusal? After a refusal the board is as it was.
 fn moves(a: BoardAnswer) -> bool
@@ -74,9 +71,9 @@ pub fn answers(
     src: &[u8],
     out: &mut [u8],
 ) -> usize
-    requires { ⌜ (length (now src) ≤ 65536) × (on ≡ true → length (answersText (lineAnswers (factsIn policy choice (now view)) b (pieces lf (now src)))) ≤ length (now out)) ⌝ }
-    ensures { λ r. ⌜ r ≡ length (answersText (lineAnswers (factsIn policy choice (now (view .entry))) b (pieces lf (now (src .entry))))) ⌝ }
-    ensures { λ r. ⌜ now (out .exit) ≡ toldInto on (answersText (lineAnswers (factsIn policy choice (now (view .entry))) b (pieces lf (now (src .entry))))) (now (out .entry)) ⌝ }
+    requires { ⌜ (length (now src) ≤ 65536) × (on ≡ true → length (repliesTo (factsIn policy choice (now view)) b (now src)) ≤ length (now out)) ⌝ }
+    ensures { λ r. ⌜ r ≡ length (repliesTo (factsIn policy choice (now (view .entry))) b (now (src .entry))) ⌝ }
+    ensures { λ r. ⌜ now (out .exit) ≡ toldInto on (repliesTo (factsIn policy choice (now (view .entry))) b (now (src .entry))) (now (out .entry)) ⌝ }
 {
     let mut t = b;
     let mut n: usize = 0;

@@ -7,7 +7,7 @@ use lib.ListN.{length}
 use Rattle.laws.specs.Bytes.{joined}
 use Rattle.laws.specs.Decimal.{decimal}
 use Rattle.laws.specs.DecimalLaws.{decimal-length}
-use Rattle.plan.specs.Limits.{maxPeriod, maxLength, maxTasks}
+use Rattle.plan.specs.Limits.{maxPeriod, maxLength, mostTasks}
 use Rattle.plan.specs.declared.Refusal.{Refusal}
 use Rattle.plan.specs.declared.Refusal.the-variants.{Shape, Number, Range, Order, Missing, Outside, TooMany, Room, Foreign, Unknown, Unlisted, Asleep, Busy, NotHolder, Supply}
 use Rattle.plan.specs.Refusals.{numberOf}
@@ -29,7 +29,7 @@ one-long w d n p h =
     let a = s .is in let b = s .small in omega arith
 
 -- a word of at most 5 bytes, a number of at most 7 digits and one of at most 8
-pub pair-long : (w : List ℕ) (x y : ℕ) → length w ≤ 5 → x ≤ maxPeriod → y ≤ maxTasks * maxLength → length (line (w ∷ decimal x ∷ decimal y ∷ [])) ≤ 30
+pub pair-long : (w : List ℕ) (x y : ℕ) → length w ≤ 5 → x ≤ maxPeriod → y ≤ mostTasks * maxLength → length (line (w ∷ decimal x ∷ decimal y ∷ [])) ≤ 30
 pair-long w x y l h k =
     let s = line-sized w (decimal x ∷ decimal y ∷ []) (rest-sized (decimal y ∷ []) (decimal-sized 7 x (omega arith) (omega arith)) (rest-sized [] (decimal-sized 8 y (omega arith) (omega arith)) end-sized)) in
     let a = s .is in let b = s .small in omega arith

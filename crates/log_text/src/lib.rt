@@ -10,12 +10,14 @@ ghost use mathlib.Core.Bool.{true};
 ghost use Prim.Native.Nat.{_*_, _≤_};
 ghost use lib.ListN.{length};
 ghost use Rattle.plan_tables.specs.Given.{planIn, isGiven};
+ghost use Rattle.plan_tables.specs.Layout.{lent};
 ghost use Rattle.figures.specs.System.{system};
 ghost use Rattle.board_rules.specs.Facts.{factsOf};
 ghost use Rattle.board_rules.specs.View.{factsIn};
+ghost use Rattle.board_rules.specs.Events.{repliesTo};
 ghost use Rattle.listing_lines.specs.Into.{textAnswer, textAfter};
 ghost use Rattle.listing_lines.specs.IntoLaws.{RoomFor};
-ghost use Rattle.desk_rooms.specs.Boarded.{answersOn, answersFor};
+ghost use Rattle.desk_rooms.specs.Boarded.{answersFor};
 
 // Do the answers to the events of src fit into the buffer? It stays as it was lent.
 fn answers_fit(
@@ -26,8 +28,8 @@ fn answers_fit(
     src: &[u8],
     out: &mut [u8],
 ) -> bool
-    requires { ⌜ (length (now src) ≤ 65536) × (length (answersOn (factsIn policy choice (now view)) b (now src)) ≤ 10 * length (now src)) ⌝ }
-    ensures { λ x. ⌜ RoomFor (answersOn (factsIn policy choice (now (view .entry))) b (now (src .entry))) (length (now (out .entry))) x ⌝ }
+    requires { ⌜ (length (now src) ≤ 65536) × (length (repliesTo (factsIn policy choice (now view)) b (now src)) ≤ 10 * length (now src)) ⌝ }
+    ensures { λ x. ⌜ RoomFor (repliesTo (factsIn policy choice (now (view .entry))) b (now (src .entry))) (length (now (out .entry))) x ⌝ }
     ensures { λ x. ⌜ now (out .exit) ≡ now (out .entry) ⌝ }
 {
     if 10 * src.len() <= out.len() {
@@ -45,9 +47,9 @@ fn answers_from(
     src: &[u8],
     out: &mut [u8],
 ) -> TextAnswer
-    requires { ⌜ (length (now src) ≤ 65536) × (length (answersOn (factsIn policy choice (now view)) b (now src)) ≤ 10 * length (now src)) ⌝ }
-    ensures { λ a. ⌜ a ≡ textAnswer (answersOn (factsIn policy choice (now (view .entry))) b (now (src .entry))) (now (out .entry)) ⌝ }
-    ensures { λ a. ⌜ now (out .exit) ≡ textAfter (answersOn (factsIn policy choice (now (view .entry))) b (now (src .entry))) (now (out .entry)) ⌝ }
+    requires { ⌜ (length (now src) ≤ 65536) × (length (repliesTo (factsIn policy choice (now view)) b (now src)) ≤ 10 * length (now src)) ⌝ }
+    ensures { λ a. ⌜ a ≡ textAnswer (repliesTo (factsIn policy choice (now (view .entry))) b (now (src .entry))) (now (out .entry)) ⌝ }
+    ensures { λ a. ⌜ now (out .exit) ≡ textAfter (repliesTo (factsIn policy choice (now (view .entry))) b (now (src .entry))) (now (out .entry)) ⌝ }
 {
     if answers_fit(b, policy, choice, view, src, out) {
         let n = log_answers::answers(true, b, policy, choice, view, src, out);
@@ -66,9 +68,9 @@ pub fn answers_into(
     src: &[u8],
     out: &mut [u8],
 ) -> TextAnswer
-    requires { ⌜ (isGiven r (record { vcpus = now vt; mutexes = now mt; opens = now ot; tasks = now ts }) ≡ true) × (length (now src) ≤ 65536) ⌝ }
-    ensures { λ a. ⌜ a ≡ textAnswer (answersFor (factsOf (system (planIn r (record { vcpus = now (vt .entry); mutexes = now (mt .entry); opens = now (ot .entry); tasks = now (ts .entry) })))) (now (src .entry))) (now (out .entry)) ⌝ }
-    ensures { λ a. ⌜ now (out .exit) ≡ textAfter (answersFor (factsOf (system (planIn r (record { vcpus = now (vt .entry); mutexes = now (mt .entry); opens = now (ot .entry); tasks = now (ts .entry) })))) (now (src .entry))) (now (out .entry)) ⌝ }
+    requires { ⌜ (isGiven r (lent (now vt) (now mt) (now ot) (now ts)) ≡ true) × (length (now src) ≤ 65536) ⌝ }
+    ensures { λ a. ⌜ a ≡ textAnswer (answersFor (factsOf (system (planIn r (lent (now (vt .entry)) (now (mt .entry)) (now (ot .entry)) (now (ts .entry)))))) (now (src .entry))) (now (out .entry)) ⌝ }
+    ensures { λ a. ⌜ now (out .exit) ≡ textAfter (answersFor (factsOf (system (planIn r (lent (now (vt .entry)) (now (mt .entry)) (now (ot .entry)) (now (ts .entry)))))) (now (src .entry))) (now (out .entry)) ⌝ }
 {
     let mut view = [0u64; 4320];
     board_views::fill_view(r, vt, mt, ts, &mut view);

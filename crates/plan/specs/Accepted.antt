@@ -15,7 +15,8 @@ use Rattle.plan.specs.Plan.{Plan}
 use Rattle.plan.specs.Lookup.{isVcpuOf, reaches}
 use Rattle.plan.specs.Text.{itemsOf, textOf, text}
 use Rattle.plan.specs.Rules.{Known, start, follows, phase, learn}
-use Rattle.plan.specs.Reading.{Judge, Verdict, Faultless, FirstBad, judge, Passes, rules, planOf, itemsIn, Accepts, answer, readingBy, reading}
+use Rattle.plan.specs.Reading.{Judge, Verdict, Faultless, FirstBad, judge, Passes, rules, Accepts, answer, readingBy, reading}
+use Rattle.plan.specs.Gathered.{planOf, itemsIn}
 use Rattle.plan.specs.Valid.{Valid}
 use Rattle.plan.specs.KindLaws.{each-kind}
 use Rattle.plan.specs.JudgeLaws.{fault-allowed, fault-written, text-accepted, accepted-text}

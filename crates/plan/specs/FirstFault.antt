@@ -13,7 +13,8 @@ use Rattle.plan.specs.Limits.{lf}
 use Rattle.plan.specs.Refusals.{Refusal, Shape, Fault, Clear, Bad}
 use Rattle.plan.specs.Line.{itemOf}
 use Rattle.plan.specs.Rules.{start}
-use Rattle.plan.specs.Reading.{Judge, Verdict, Faultless, FirstBad, faultOf, nextOf, onward, judge, rules, itemsIn, planOf, Refuses, answer, readingBy, reading}
+use Rattle.plan.specs.Reading.{Judge, Verdict, Faultless, FirstBad, faultOf, nextOf, onward, judge, rules, Refuses, answer, readingBy, reading}
+use Rattle.plan.specs.Gathered.{itemsIn, planOf}
 use Rattle.plan.specs.ListLaws.{append-some}
 
 module _ (J : Judge) where

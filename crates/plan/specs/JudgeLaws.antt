@@ -13,7 +13,8 @@ use Rattle.plan.specs.Limits.{lf}
 use Rattle.plan.specs.Refusals.{Refusal, Shape, Fault, Clear, Bad, unless}
 use Rattle.plan.specs.Line.{Item, shape, written, itemOf, lineOf}
 use Rattle.plan.specs.Text.{linesOf, textOf}
-use Rattle.plan.specs.Reading.{Judge, Faultless, FirstBad, fault, faultOf, nextOf, onward, judge, Passes, push, itemsIn}
+use Rattle.plan.specs.Reading.{Judge, Faultless, FirstBad, fault, faultOf, nextOf, onward, judge, Passes}
+use Rattle.plan.specs.Gathered.{push, itemsIn}
 use Rattle.plan.specs.ListLaws.{append-some}
 use Rattle.plan.specs.LineLaws.{item-line, line-item, line-lacks}
 

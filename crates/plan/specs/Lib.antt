@@ -6,6 +6,7 @@ pub mod Line
 pub mod Text
 pub mod Valid
 pub mod Rules
+pub mod Gathered
 pub mod Reading
 pub mod ListLaws
 pub mod KindLaws

@@ -1,4 +1,5 @@
--- The limits of a plan, each from document 01, and each in this place alone.
+-- The numbers of document 01: what a plan, an event and an input may have, what tables and boards have places for, what a global mutex adds to a priority,
+-- and the bytes that part fields and end lines. Those that code tests by name stand in src of this crate, tied to these by the contracts that need them.
 use Prim.Native.Nat.{ℕ}
 
 -- v 1 to 16
@@ -40,6 +41,13 @@ maxTasks = 64
 -- at most 8 locks in a task
 abbrev pub maxLocks : ℕ
 maxLocks = 8
+
+-- WHAT TABLES, BOARDS AND SCRATCH HAVE PLACES FOR, no fewer than a plan may have: n of a VCPU's tasks, and tasks in all
+abbrev pub mostN : ℕ
+mostN = 8
+
+abbrev pub mostTasks : ℕ
+mostTasks = 64
 
 -- a number has 1 to 7 decimal digits
 abbrev pub maxDigits : ℕ

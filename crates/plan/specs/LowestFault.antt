@@ -1,73 +1,22 @@
--- A line's refusal has the lowest number of the tests that it fails.
+-- A line is clear exactly when no test of it fails, and its refusal has the lowest number of the tests that it fails.
 use Prim.Native.Nat.{ℕ, _≤_, _<_}
 use mathlib.Core.Path.{_≡_, refl, sym, _∙_}
 use mathlib.Core.List.{List, [], _∷_}
 use mathlib.Core.Option.{Option, some, none}
-use mathlib.Core.Logic.{_⊎_, inl, inr}
+use mathlib.Core.Logic.{_⊎_, inl, inr, _↔_}
 use mathlib.Core.Bool.{Bool, true, false, _&&_, false≢true}
 use native.Mathlib.Omega.{arith}
 use lib.Dec.{ltb}
 use borrow.Author.Tests.{ltb-true}
 use Rattle.laws.specs.BoolLaws.{both-left, both-right}
-use Rattle.laws.specs.Sums.{all, Chain}
-use Rattle.plan.specs.Limits.{maxV, maxGuest, maxM, maxN, maxPeriod, maxLength, maxTasks, maxLocks}
-use Rattle.plan.specs.Refusals.{Refusal, Shape, Number, Range, Order, Missing, Outside, TooMany, Fault, Clear, Bad, unless, numberOf}
-use Rattle.plan.specs.Line.{Item, shape, written, itemOf, Kind, PlanLine, PolicyPO, PolicyPN, PolicyDO, PolicyDN, VcpuLine, MutexG, MutexL, OpenLine, GuestLine, TaskLine, RunLine, LockLine, EndLine, AskLine, FreeLine, UseLine, TopLine, ShowLine}
-use Rattle.plan.specs.Lookup.{hasVcpu, isVcpuOf, hasGuest, hasMutex, global, reaches}
-use Rattle.plan.specs.Rules.{Known, follows, within, nth, vcpuOf, lastV, lastM, lastOpen, rises, vcpuFits, rule}
+use Rattle.laws.specs.Sums.{all, Each, Chain}
+use Rattle.plan.specs.Refusals.{Refusal, Shape, Number, Clear, Bad, unless, numberOf}
+use Rattle.plan.specs.Line.{Item, Kind, shape, written, itemOf}
+use Rattle.plan.specs.Rules.{Known, follows, Test, test, firstFailed, testsOf, rule}
 use Rattle.plan.specs.Reading.{rules, fault, faultOf}
 use Rattle.plan.specs.ListLaws.{chain-rest}
-use Rattle.plan.specs.KindLaws.{each-kind, all-kind}
-
--- a test of a line, and the refusal where it does not hold
-pub record Test : Type 0 where
-  pub refusal : Refusal
-  pub holds : Bool
-
-abbrev pub test : Refusal → Bool → Test
-test r b = record { refusal = r; holds = b }
-
--- the tests 3 to 7 of a line of each kind, each on its own
-unfoldable pub testsOf : Known → Kind → List ℕ → List Test
-testsOf t PlanLine ns = []
-testsOf t PolicyPO ns = []
-testsOf t PolicyPN ns = []
-testsOf t PolicyDO ns = []
-testsOf t PolicyDN ns = []
-testsOf t VcpuLine ns = test Range (vcpuFits (vcpuOf ns)) ∷ test Order (ltb (lastV (t .vcpus)) (nth 0 ns)) ∷ []
-testsOf t MutexG ns = test Range (within (nth 0 ns) 1 maxM) ∷ test Order (ltb (lastM (t .mutexes)) (nth 0 ns)) ∷ []
-testsOf t MutexL ns =
-    test Range (within (nth 0 ns) 1 maxM && within (nth 1 ns) 1 maxV)
-    ∷ test Order (ltb (lastM (t .mutexes)) (nth 0 ns))
-    ∷ test Missing (hasVcpu (t .vcpus) (nth 1 ns))
-    ∷ []
-testsOf t OpenLine ns =
-    test Range (within (nth 0 ns) 1 maxM && within (nth 1 ns) 1 maxGuest)
-    ∷ test Order (rises (lastOpen (t .opens) .m) (lastOpen (t .opens) .guest) (nth 0 ns) (nth 1 ns))
-    ∷ test Missing (global (t .mutexes) (nth 0 ns) && hasGuest (t .vcpus) (nth 1 ns))
-    ∷ []
-testsOf t GuestLine ns =
-    test Range (within (nth 0 ns) 1 maxGuest) ∷ test Order (ltb (t .guest) (nth 0 ns)) ∷ test Missing (hasGuest (t .vcpus) (nth 0 ns)) ∷ []
-testsOf t TaskLine ns =
-    test Range (within (nth 0 ns) 1 maxV && (within (nth 1 ns) 1 maxN && within (nth 2 ns) 1 maxPeriod))
-    ∷ test Order (rises (t .v) (t .n) (nth 0 ns) (nth 1 ns))
-    ∷ test Missing (hasVcpu (t .vcpus) (nth 0 ns))
-    ∷ test Outside (isVcpuOf (t .vcpus) (t .guest) (nth 0 ns))
-    ∷ test TooMany (ltb (t .tasks) maxTasks)
-    ∷ []
-testsOf t RunLine ns = test Range (within (nth 0 ns) 0 maxLength) ∷ []
-testsOf t LockLine ns =
-    test Range (within (nth 0 ns) 1 maxM && within (nth 1 ns) 1 maxLength)
-    ∷ test Missing (hasMutex (t .mutexes) (nth 0 ns))
-    ∷ test Outside (reaches (t .mutexes) (t .opens) (t .guest) (t .v) (nth 0 ns))
-    ∷ test TooMany (ltb (t .locks) maxLocks)
-    ∷ []
-testsOf t EndLine ns = []
-testsOf t AskLine ns = []
-testsOf t FreeLine ns = []
-testsOf t UseLine ns = []
-testsOf t TopLine ns = []
-testsOf t ShowLine ns = []
+use Rattle.plan.specs.JudgeLaws.{unless-clear}
+use Rattle.plan.specs.KindLaws.{all-kind}
 
 -- all tests of a line, 1 and 2 with them
 abbrev pub lineTests : Known → Item → List Test
@@ -82,11 +31,6 @@ Fails r (x ∷ xs) = ((x .holds ≡ false) × (r ≡ x .refusal)) ⊎ Fails r xs
 pub record Lowest (r : Refusal) (xs : List Test) : Type 0 where
   pub fails : Fails r xs
   pub lowest : (s : Refusal) → Fails s xs → numberOf r ≤ numberOf s
-
--- the first test that fails
-abbrev firstFailed : List Test → Fault
-firstFailed [] = Clear
-firstFailed (x ∷ xs) = unless (x .holds) (x .refusal) (firstFailed xs)
 
 abbrev Below : Test → Test → Type 0
 Below x y = numberOf (x .refusal) < numberOf (y .refusal)
@@ -116,13 +60,6 @@ first-lowest (x ∷ xs) r c h = go (x .holds) refl h (first-lowest xs r (chain-r
           ];
         }
 
-rule-first : (t : Known) (k : Kind) (ns : List ℕ) → rule t k ns ≡ firstFailed (testsOf t k ns)
-unfolding rule testsOf
-rule-first t k ns =
-    each-kind (λ k. rule t k ns ≡ firstFailed (testsOf t k ns))
-    (refl, (refl, (refl, (refl, (refl, (refl, (refl, (refl, (refl, (refl, (refl, (refl, (refl, (refl, (refl, (refl, (refl, (refl, (refl, tt)))))))))))))))))))
-    k
-
 -- do the tests stand in the order of their numbers?
 abbrev rising : List Test → Bool
 rising [] = true
@@ -140,12 +77,25 @@ tests-rise : (t : Known) (k : Kind) (b c : Bool) (ns : List ℕ) → rising (tes
 unfolding testsOf numberOf all
 tests-rise t k b c ns = all-kind (λ k. rising (test Shape b ∷ test Number c ∷ testsOf t k ns)) refl k
 
+-- no test fails exactly when all hold
+first-clear : (xs : List Test) → (firstFailed xs ≡ Clear) ↔ Each (λ x. x .holds ≡ true) xs
+first-clear [] = (λ h. tt, λ h. refl)
+first-clear (x ∷ xs) = (
+  λ h. let a = unless-clear (x .holds) (x .refusal) (firstFailed xs) .0 h in (a .0, first-clear xs .0 (a .1)),
+  λ h. unless-clear (x .holds) (x .refusal) (firstFailed xs) .1 (h .0, first-clear xs .1 (h .1)),
+)
+
+-- a line is clear exactly when no test of it fails
+pub clear-exactly : (t : Known) (i : Item) → (fault rules t i ≡ Clear) ↔ Each (λ x. x .holds ≡ true) (lineTests t i)
+unfolding fault rule
+clear-exactly t i = first-clear (lineTests t i)
+
 -- "in a line the lowest number"
 pub fault-lowest : (t : Known) (i : Item) (r : Refusal) → fault rules t i ≡ Bad r → Lowest r (lineTests t i)
-unfolding fault
+unfolding fault rule
 fault-lowest t i r h =
     let c = tests-rise t (i .kind) (follows (t .phase) (i .kind)) (written (shape (i .kind)) (i .nums)) (i .nums) in
-    first-lowest (lineTests t i) r (rising-chain (lineTests t i) c) (rw rule-first at h)
+    first-lowest (lineTests t i) r (rising-chain (lineTests t i) c) h
 
 -- a line of no kind is refused 1, and any other line by the lowest of its tests that fail
 pub line-lowest :

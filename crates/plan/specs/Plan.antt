@@ -6,6 +6,7 @@ pub use Rattle.plan.specs.declared.Policy.{Policy}
 pub use Rattle.plan.specs.declared.Policy.the-variants.{Periodic, Deferrable}
 pub use Rattle.plan.specs.declared.OverrunChoice.{OverrunChoice}
 pub use Rattle.plan.specs.declared.OverrunChoice.the-variants.{WithOverrun, WithoutOverrun}
+pub use Rattle.plan.specs.declared.Lock.{Lock}
 
 -- `vcpu v guest core budget period`
 pub record Vcpu : Type 0 where
@@ -29,13 +30,7 @@ pub record Open : Type 0 where
   pub m : ℕ
   pub guest : ℕ
 
--- `lock m t`, and the `run t` after it
-pub record Lock : Type 0 where
-  pub m : ℕ
-  pub ticks : ℕ
-  pub after : ℕ
-
--- `task v n period`, then `run t`, then any number of pairs `lock m t`, `run t`
+-- `task v n period`, then `run t`, then any number of pairs `lock m t`, `run t`: a pair is a Lock, with m, the ticks under it, and the run after it
 pub record Task : Type 0 where
   pub v : ℕ
   pub n : ℕ

@@ -12,7 +12,7 @@ use Rattle.plan.specs.Line.{Item, bad, headOr, shape, written, Form, Wor
 use Rattle.plan.specs.Plan.{Policy, Periodic, Deferrable, OverrunChoice, WithOverrun, WithoutOverrun, Vcpu, Owner, Global, Local, Mutex, Open, Lock, Task, Section, Plan}
 use Rattle.plan.specs.Text.{item, policyKind, ownedItem, runItem, vcpuItems, mutexItems, openItems, lockItems, taskItems, sectionItems, itemsOf}
 use Rattle.plan.specs.Rules.{phase, within, follows}
-use Rattle.plan.specs.Reading.{Rest, rest, withPolicy, lineAbove, restOf, planFrom, planOf}
+use Rattle.plan.specs.Gathered.{Rest, rest, withPolicy, lineAbove, restOf, planFrom, planOf}
 use Rattle.plan.specs.KindLaws.{each-kind, only-kind}
 
 -- THE LINES OF A PLAN SAY THE PLAN: what is gathered from a table's lines and the rest

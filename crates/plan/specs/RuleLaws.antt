@@ -14,7 +14,7 @@ use Rattle.plan.specs.Line.{shape, written, VcpuLine, OpenLine, GuestLin
 use Rattle.plan.specs.Plan.{Vcpu, Owner, Global, Local, Open}
 use Rattle.plan.specs.Lookup.{isVcpuOf, hasGuest, reaches}
 use Rattle.plan.specs.Text.{item, vcpuItem, ownedItem, openItem, runItem}
-use Rattle.plan.specs.Rules.{Known, within, follows, rule, rises, vcpuFits, lastV, lastM, lastOpen}
+use Rattle.plan.specs.Rules.{Known, within, follows, rule, testsOf, rises, vcpuFits, lastV, lastM, lastOpen}
 use Rattle.plan.specs.Reading.{rules, fault}
 use Rattle.plan.specs.Valid.{In, PairRises, VcpuValid, MutexValid, OpenValid}
 use Rattle.plan.specs.JudgeLaws.{unless-clear, fault-clear}
@@ -48,13 +48,13 @@ ruleset tests = (unless-last, unless-clear, and-true, and-both, leb-exactly, ris
 
 module _ (t : Known) where
   pub vcpu-clear : (r : Vcpu) → follows (t .phase) VcpuLine ≡ true → (fault rules t (vcpuItem r) ≡ Clear) ↔ (VcpuValid r × (lastV (t .vcpus) < r .v))
-  unfolding rule vcpuFits written shape
+  unfolding rule testsOf vcpuFits written shape
   vcpu-clear r f = simp (fault-clear rules t (vcpuItem r) f, tests) (omega arith)
 
   pub mutex-clear :
       (m : ℕ) (o : Owner) → within (t .phase) 3 4 ≡ true →
       (fault rules t (ownedItem m o) ≡ Clear) ↔ (MutexValid (t .vcpus) (record { m = m; owner = o }) × (lastM (t .mutexes) < m))
-  unfolding follows rule written shape
+  unfolding follows rule testsOf written shape
   mutex-clear m Global f = simp (fault-clear rules t (ownedItem m Global) f, tests) (λ h. search (tt, arith), λ h. search arith)
   mutex-clear m (Local v) f = simp (fault-clear rules t (ownedItem m (Local v)) f, tests) (λ h. search arith, λ h. search arith)
 
@@ -62,33 +62,33 @@ module _ (t : Known) where
       (r : Open) → follows (t .phase) OpenLine ≡ true →
       (fault rules t (openItem r) ≡ Clear)
       ↔ (OpenValid (t .vcpus) (t .mutexes) r × PairRises (lastOpen (t .opens) .m) (lastOpen (t .opens) .guest) (r .m) (r .guest))
-  unfolding rule written shape
+  unfolding rule testsOf written shape
   open-clear r f = simp (fault-clear rules t (openItem r) f, tests) (λ h. search arith, λ h. search arith)
 
   pub guest-clear :
       (g : ℕ) → follows (t .phase) GuestLine ≡ true →
       (fault rules t (item GuestLine (g ∷ [])) ≡ Clear) ↔ (In g 1 maxGuest × (t .guest < g) × (hasGuest (t .vcpus) g ≡ true))
-  unfolding rule written shape
+  unfolding rule testsOf written shape
   guest-clear g f = simp (fault-clear rules t (item GuestLine (g ∷ [])) f, tests) (λ h. search arith, λ h. search arith)
 
   pub task-clear :
       (v n p : ℕ) → follows (t .phase) TaskLine ≡ true →
       (fault rules t (item TaskLine (v ∷ n ∷ p ∷ [])) ≡ Clear)
       ↔ (In v 1 maxV × In n 1 maxN × In p 1 maxPeriod × PairRises (t .v) (t .n) v n × (isVcpuOf (t .vcpus) (t .guest) v ≡ true) × (t .tasks < maxTasks))
-  unfolding rule written shape
+  unfolding rule testsOf written shape
   task-clear v n p f = simp (fault-clear rules t (item TaskLine (v ∷ n ∷ p ∷ [])) f, tests) (λ h. search arith, λ h. search (of-has, arith))
 
   pub run-clear : (x : ℕ) → follows (t .phase) RunLine ≡ true → (fault rules t (runItem x) ≡ Clear) ↔ In x 0 maxLength
-  unfolding rule written shape
+  unfolding rule testsOf written shape
   run-clear x f = simp (fault-clear rules t (runItem x) f, tests) (omega arith)
 
   pub lock-clear :
       (m x : ℕ) → follows (t .phase) LockLine ≡ true →
       (fault rules t (item LockLine (m ∷ x ∷ [])) ≡ Clear)
       ↔ (In m 1 maxM × In x 1 maxLength × (reaches (t .mutexes) (t .opens) (t .guest) (t .v) m ≡ true) × (t .locks < maxLocks))
-  unfolding rule written shape
+  unfolding rule testsOf written shape
   lock-clear m x f = simp (fault-clear rules t (item LockLine (m ∷ x ∷ [])) f, tests) (λ h. search arith, λ h. search (reach-has, arith))
 
   pub end-clear : follows (t .phase) EndLine ≡ true → fault rules t (item EndLine []) ≡ Clear
-  unfolding rule written shape
+  unfolding rule testsOf written shape
   end-clear f = fault-clear rules t (item EndLine []) f .1 (refl, refl)

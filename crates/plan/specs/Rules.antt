@@ -4,7 +4,7 @@ use mathlib.Core.List.{List, [], _∷_, _++_, tail}
 use mathlib.Core.Bool.{Bool, false, _&&_, _||_}
 use lib.Dec.{eqb, leb, ltb}
 use Rattle.plan.specs.Limits.{maxV, maxGuest, maxCore, maxM, maxN, maxPeriod, maxLength, maxTasks, maxLocks}
-use Rattle.plan.specs.Refusals.{Range, Order, Missing, Outside, TooMany, Fault, Clear, unless}
+use Rattle.plan.specs.Refusals.{Refusal, Range, Order, Missing, Outside, TooMany, Fault, Clear, unless}
 use Rattle.plan.specs.Line.{Item, headOr, Kind, PlanLine, PolicyPO, PolicyPN, PolicyDO, PolicyDN, VcpuLine, MutexG, MutexL, OpenLine, GuestLine, TaskLine, RunLine, LockLine, EndLine, AskLine, FreeLine, UseLine, TopLine, ShowLine}
 use Rattle.plan.specs.Plan.{Vcpu, Global, Local, Mutex, Open}
 use Rattle.plan.specs.Lookup.{hasVcpu, isVcpuOf, hasGuest, hasMutex, global, reaches}
@@ -107,49 +107,73 @@ unfoldable pub vcpuFits : Vcpu → Bool
 vcpuFits r =
     within (r .v) 1 maxV && (within (r .guest) 1 maxGuest && (within (r .core) 0 maxCore && (within (r .period) 1 maxPeriod && within (r .budget) 1 (r .period))))
 
--- WHAT IS WRONG with a line that is allowed here and whose numbers are written as they should be: the lowest of 3 to 7
-unfoldable pub rule : Known → Kind → List ℕ → Fault
-rule t PlanLine ns = Clear
-rule t PolicyPO ns = Clear
-rule t PolicyPN ns = Clear
-rule t PolicyDO ns = Clear
-rule t PolicyDN ns = Clear
+-- A TEST of a line, and the refusal where it does not hold
+pub record Test : Type 0 where
+  pub refusal : Refusal
+  pub holds : Bool
+
+abbrev pub test : Refusal → Bool → Test
+test r b = record { refusal = r; holds = b }
+
+-- the refusal of the first test that does not hold
+abbrev pub firstFailed : List Test → Fault
+firstFailed [] = Clear
+firstFailed (x ∷ xs) = unless (x .holds) (x .refusal) (firstFailed xs)
+
+-- WHAT IS ASKED of a line that is allowed here and whose numbers are written as they should be: its tests 3 to 7, in the order of their numbers
+unfoldable pub testsOf : Known → Kind → List ℕ → List Test
+testsOf t PlanLine ns = []
+testsOf t PolicyPO ns = []
+testsOf t PolicyPN ns = []
+testsOf t PolicyDO ns = []
+testsOf t PolicyDN ns = []
 -- `vcpu v guest core budget period`, v rising
-rule t VcpuLine ns = unless (vcpuFits (vcpuOf ns)) Range (unless (ltb (lastV (t .vcpus)) (nth 0 ns)) Order Clear)
+testsOf t VcpuLine ns = test Range (vcpuFits (vcpuOf ns)) ∷ test Order (ltb (lastV (t .vcpus)) (nth 0 ns)) ∷ []
 -- `mutex m G`, m rising
-rule t MutexG ns = unless (within (nth 0 ns) 1 maxM) Range (unless (ltb (lastM (t .mutexes)) (nth 0 ns)) Order Clear)
+testsOf t MutexG ns = test Range (within (nth 0 ns) 1 maxM) ∷ test Order (ltb (lastM (t .mutexes)) (nth 0 ns)) ∷ []
 -- `mutex m L v`, m rising, v declared
-rule t MutexL ns =
-    unless (within (nth 0 ns) 1 maxM && within (nth 1 ns) 1 maxV) Range
-    (unless (ltb (lastM (t .mutexes)) (nth 0 ns)) Order (unless (hasVcpu (t .vcpus) (nth 1 ns)) Missing Clear))
+testsOf t MutexL ns =
+    test Range (within (nth 0 ns) 1 maxM && within (nth 1 ns) 1 maxV)
+    ∷ test Order (ltb (lastM (t .mutexes)) (nth 0 ns))
+    ∷ test Missing (hasVcpu (t .vcpus) (nth 1 ns))
+    ∷ []
 -- `open m guest`, pairs rising, m global, the guest has a VCPU declared
-rule t OpenLine ns =
-    unless (within (nth 0 ns) 1 maxM && within (nth 1 ns) 1 maxGuest) Range
-    (unless (rises (lastOpen (t .opens) .m) (lastOpen (t .opens) .guest) (nth 0 ns) (nth 1 ns)) Order
-    (unless (global (t .mutexes) (nth 0 ns) && hasGuest (t .vcpus) (nth 1 ns)) Missing Clear))
+testsOf t OpenLine ns =
+    test Range (within (nth 0 ns) 1 maxM && within (nth 1 ns) 1 maxGuest)
+    ∷ test Order (rises (lastOpen (t .opens) .m) (lastOpen (t .opens) .guest) (nth 0 ns) (nth 1 ns))
+    ∷ test Missing (global (t .mutexes) (nth 0 ns) && hasGuest (t .vcpus) (nth 1 ns))
+    ∷ []
 -- `guest g`, g rising, the guest has a VCPU declared
-rule t GuestLine ns =
-    unless (within (nth 0 ns) 1 maxGuest) Range (unless (ltb (t .guest) (nth 0 ns)) Order (unless (hasGuest (t .vcpus) (nth 0 ns)) Missing Clear))
+testsOf t GuestLine ns =
+    test Range (within (nth 0 ns) 1 maxGuest) ∷ test Order (ltb (t .guest) (nth 0 ns)) ∷ test Missing (hasGuest (t .vcpus) (nth 0 ns)) ∷ []
 -- `task v n period`, (v, n) rising within the section, v declared and this guest's; not the 65th
-rule t TaskLine ns =
-    unless (within (nth 0 ns) 1 maxV && (within (nth 1 ns) 1 maxN && within (nth 2 ns) 1 maxPeriod)) Range
-    (unless (rises (t .v) (t .n) (nth 0 ns) (nth 1 ns)) Order
-    (unless (hasVcpu (t .vcpus) (nth 0 ns)) Missing
-    (unless (isVcpuOf (t .vcpus) (t .guest) (nth 0 ns)) Outside (unless (ltb (t .tasks) maxTasks) TooMany Clear))))
+testsOf t TaskLine ns =
+    test Range (within (nth 0 ns) 1 maxV && (within (nth 1 ns) 1 maxN && within (nth 2 ns) 1 maxPeriod))
+    ∷ test Order (rises (t .v) (t .n) (nth 0 ns) (nth 1 ns))
+    ∷ test Missing (hasVcpu (t .vcpus) (nth 0 ns))
+    ∷ test Outside (isVcpuOf (t .vcpus) (t .guest) (nth 0 ns))
+    ∷ test TooMany (ltb (t .tasks) maxTasks)
+    ∷ []
 -- `run t`
-rule t RunLine ns = unless (within (nth 0 ns) 0 maxLength) Range Clear
+testsOf t RunLine ns = test Range (within (nth 0 ns) 0 maxLength) ∷ []
 -- `lock m t`, m declared, and local to this VCPU or a global one opened to this guest; not the ninth
-rule t LockLine ns =
-    unless (within (nth 0 ns) 1 maxM && within (nth 1 ns) 1 maxLength) Range
-    (unless (hasMutex (t .mutexes) (nth 0 ns)) Missing
-    (unless (reaches (t .mutexes) (t .opens) (t .guest) (t .v) (nth 0 ns)) Outside (unless (ltb (t .locks) maxLocks) TooMany Clear)))
-rule t EndLine ns = Clear
+testsOf t LockLine ns =
+    test Range (within (nth 0 ns) 1 maxM && within (nth 1 ns) 1 maxLength)
+    ∷ test Missing (hasMutex (t .mutexes) (nth 0 ns))
+    ∷ test Outside (reaches (t .mutexes) (t .opens) (t .guest) (t .v) (nth 0 ns))
+    ∷ test TooMany (ltb (t .locks) maxLocks)
+    ∷ []
+testsOf t EndLine ns = []
 -- an event's line stands in no plan (`follows`), so nothing more is asked of it
-rule t AskLine ns = Clear
-rule t FreeLine ns = Clear
-rule t UseLine ns = Clear
-rule t TopLine ns = Clear
-rule t ShowLine ns = Clear
+testsOf t AskLine ns = []
+testsOf t FreeLine ns = []
+testsOf t UseLine ns = []
+testsOf t TopLine ns = []
+testsOf t ShowLine ns = []
+
+-- WHAT IS WRONG with it: the first of its tests that does not hold, so the lowest number (LowestFault)
+unfoldable pub rule : Known → Kind → List ℕ → Fault
+rule t k ns = firstFailed (testsOf t k ns)
 
 -- the same, at another phase
 abbrev pub moved : ℕ → Known → Known

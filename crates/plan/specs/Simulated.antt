@@ -9,7 +9,8 @@ use Rattle.laws.specs.Bytes.{pieces, isNil}
 use Rattle.plan.specs.Limits.{lf}
 use Rattle.plan.specs.Refusals.{Fault, Clear, Bad}
 use Rattle.plan.specs.Line.{Item, itemOf}
-use Rattle.plan.specs.Reading.{Judge, Verdict, fault, faultOf, nextOf, finish, onward, judge, Passes, itemsIn, planOf, answer, readingBy}
+use Rattle.plan.specs.Reading.{Judge, Verdict, fault, faultOf, nextOf, finish, onward, judge, Passes, answer, readingBy}
+use Rattle.plan.specs.Gathered.{itemsIn, planOf}
 
 module _ (I J : Judge) (R : I .Seen → J .Seen → Type 0) where
   -- related states have the same faults and stops, and stay related after an item with no fault

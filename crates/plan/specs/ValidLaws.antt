@@ -16,7 +16,7 @@ use Rattle.plan.specs.Refusals.{unless}
 use Rattle.plan.specs.Line.{Item, shape, written, PlanLine, GuestLine, EndLine}
 use Rattle.plan.specs.Plan.{Policy, Periodic, Deferrable, OverrunChoice, WithOverrun, WithoutOverrun, Vcpu, Owner, Global, Local, Mutex, Open, Lock, Task, Section, Plan, tasksOf, noVcpu, noTask}
 use Rattle.plan.specs.Text.{item, policyKind, ownedItem, openItem, vcpuItems, mutexItems, openItems, lockItems, taskItems, sectionItems, itemsOf}
-use Rattle.plan.specs.Rules.{Known, known, start, within, follows, rule, phase, learn, learnt, withMutex, last}
+use Rattle.plan.specs.Rules.{Known, known, start, within, follows, rule, testsOf, phase, learn, learnt, withMutex, last}
 use Rattle.plan.specs.Reading.{rules, fault, Passes}
 use Rattle.plan.specs.Valid.{PairRises, VcpuValid, MutexValid, OpenValid, LockValid, TaskValid, SectionValid, Valid}
 use Rattle.plan.specs.ListLaws.{chain-rest, chain-from, last-append}
@@ -209,7 +209,7 @@ module _ (vs : List Vcpu) where
 
 -- THE PLAN: after its first two lines
 front-pass : (q : Policy) (o : OverrunChoice) (is : List Item) → Passes rules start (item PlanLine [] ∷ item (policyKind q o) [] ∷ is) ↔ Passes rules (known 2 [] [] [] 0 0 0 0 0) is
-unfolding fault unless follows written shape rule learn phase
+unfolding fault unless follows written shape rule testsOf learn phase
 front-pass Periodic WithOverrun is = (λ h. h .1 .1, λ h. (refl, (refl, h)))
 front-pass Periodic WithoutOverrun is = (λ h. h .1 .1, λ h. (refl, (refl, h)))
 front-pass Deferrable WithOverrun is = (λ h. h .1 .1, λ h. (refl, (refl, h)))

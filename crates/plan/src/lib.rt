@@ -1,8 +1,49 @@
-// The types that a plan is made of in code and in definitions alike, and small steps that several crates take. What they mean stands in specs/.
+// The limits of document 01 as code tests them, the types that a plan is made of in code and in definitions alike, and small steps that several crates take. What they mean stands in specs/.
 ghost use mathlib.Core.Path.{_≡_};
 ghost use Prim.Native.Nat.{max};
 ghost use Rattle.plan.specs.Refusals as refusals;
 ghost use Rattle.plan.specs.Rules as rules;
+
+// The limits of document 01 (specs/Limits), which contracts tie to their definitions: v 1 to 16.
+pub const MAX_V: u64 = 16;
+
+// Guest 1 to 4.
+pub const MAX_GUEST: u64 = 4;
+
+// Core 0 to 3.
+pub const MAX_CORE: u64 = 3;
+
+// m 1 to 32.
+pub const MAX_M: u64 = 32;
+
+// n 1 to 8.
+pub const MAX_N: u64 = 8;
+
+// Every period 1 to 1,000,000.
+pub const MAX_PERIOD: u64 = 1000000;
+
+// Run 0 to 1,000,000, lock 1 to 1,000,000.
+pub const MAX_LENGTH: u64 = 1000000;
+
+// At most 64 tasks in a plan.
+pub const MAX_TASKS: u64 = 64;
+
+// Tables and scratch have places for as many tasks, which no plan passes.
+pub const MOST_TASKS: usize = 64;
+
+// At most 8 locks in a task.
+pub const MAX_LOCKS: u64 = 8;
+
+// A number field that is not written as it should be says this or more.
+pub const BAD: u64 = 10000000;
+
+// The bytes that part fields and end lines.
+pub const TAB: u8 = 9;
+
+pub const LF: u8 = 10;
+
+// The phase after `end` (specs/Rules).
+pub const ENDED: u64 = 10;
 
 // Policy p: a VCPU is a periodic server (P) or a deferrable one (D).
 pub enum Policy {
@@ -14,6 +55,13 @@ pub enum Policy {
 pub enum OverrunChoice {
     WithOverrun,
     WithoutOverrun,
+}
+
+// `lock m t`, and the `run t` after it.
+pub struct Lock {
+    pub m: u64,
+    pub ticks: u64,
+    pub after: u64,
 }
 
 // Numbers that say no, 1 to 15 in this order (specs/Refusals).

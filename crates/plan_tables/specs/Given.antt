@@ -51,13 +51,16 @@ planIn r t =
       sections = sectionsOf (rows (r .vcpus) (vcpuRow (t .vcpus))) (rows (r .tasks) (taskRow (t .tasks)));
     }
 
--- THE TEST FOR 9: the counts are within the slices, the places of locks that a task does not have are zero, no row has a fault after those before it, and a plan may end
+-- ROOM: as many rows as the record counts are within tables of these lengths, and within these tables
+unfoldable pub roomyBy : PlanRecord → ℕ → ℕ → ℕ → ℕ → Bool
+roomyBy r v m o k =
+    leb (r .vcpus * vcpuWidth) v && (leb (r .mutexes * mutexWidth) m && (leb (r .opens * openWidth) o && leb (r .tasks * taskWidth) k))
+
+abbrev pub roomy : PlanRecord → Tables → Bool
+roomy r t = roomyBy r (length (t .vcpus)) (length (t .mutexes)) (length (t .opens)) (length (t .tasks))
+
+-- THE TEST FOR 9: there is room, the places of locks that a task does not have are zero, no row has a fault after those before it, and a plan may end
 -- after the last (so it has a VCPU and a task)
-unfoldable pub roomy : PlanRecord → Tables → Bool
-roomy r t =
-    leb (r .vcpus * vcpuWidth) (length (t .vcpus))
-    && (leb (r .mutexes * mutexWidth) (length (t .mutexes))
-    && (leb (r .opens * openWidth) (length (t .opens)) && leb (r .tasks * taskWidth) (length (t .tasks))))
 
 -- the cells of task i from place c on are zero
 unfoldable pub zeroFrom : List ℕ → ℕ → ℕ → Bool
@@ -78,3 +81,7 @@ module _ (J : Judge) where
 
 unfoldable pub isGiven : PlanRecord → Tables → Bool
 isGiven r t = roomy r t && (all (λ i. zeroRest (t .tasks) i) (rows (r .tasks) (λ i. i)) && clean rules start (itemsOf (planIn r t)))
+
+-- "Calls on tables or a board test 9 first": what f says of the plan in the tables, or `other`, where no accepted plan gives them: the answer that says 9, or what was lent
+abbrev pub ifGiven : {A : Type 0} → PlanRecord → Tables → (Plan → A) → A → A
+ifGiven r t f other = elim (isGiven r t) [ true ↦ f (planIn r t) | false ↦ other ]

@@ -1,14 +1,15 @@
 -- Laws of `Given`: the plan that gives tables is the plan in them, it is one, and the test for 9 says whether there is one.
-use Prim.Native.Nat.{ℕ, _*_, _≤_, _<_}
+use Prim.Native.Nat.{ℕ, _*_, _/_, _≤_, _<_}
 use mathlib.Core.Path.{_≡_, refl, ap, ap₂, sym, _∙_}
 use mathlib.Core.List.{List, [], _∷_, _++_}
 use mathlib.Core.Bool.{Bool, true, false, _&&_, _||_, or-false, false≢true}
 use mathlib.Core.Logic.{_↔_}
 use native.Mathlib.Omega.{arith}
-use borrow.Author.Tests.{eqb-true, eq-eqb, ne-eqb}
-use lib.Dec.{eqb}
+use native.Mathlib.Nat.{le-div-iff-mul-le}
+use borrow.Author.Tests.{eqb-true, eq-eqb, ne-eqb, leb-true, le-leb}
+use lib.Dec.{eqb, leb}
 use lib.ListN.{length}
-use Rattle.laws.specs.BoolLaws.{both, both-left, both-right, miss-left, both-exactly, leb-exactly}
+use Rattle.laws.specs.BoolLaws.{both, both-left, both-right, miss-left, both-ways, both-exactly, leb-exactly}
 use Rattle.laws.specs.Choice.{if_then_else_}
 use Rattle.laws.specs.Sums.{first, any, all, flat, Each, Chain, Some}
 use Rattle.laws.specs.SumLaws.{first-in, first-out, each-all, each-map, each-flat}
@@ -27,7 +28,7 @@ use Rattle.plan.specs.Reading.{Judge, fault, Passes, rules}
 use Rattle.plan.specs.ListLaws.{chain-rest, rising-above}
 use Rattle.plan.specs.ValidLaws.{passes-valid, valid-passes}
 use Rattle.plan_tables.specs.Layout.{PlanRecord, Tables, vcpuWidth, mutexWidth, openWidth, taskWidth, vcpuCells, mutexCells, openCells, taskCells, over, cell, vcpuRow, mutexRow, openRow, lockRow, taskRow, filled, recordOf}
-use Rattle.plan_tables.specs.Given.{Gives, Given, guestFor, atop, sectionsOf, planIn, roomy, zeroRest, isClear, clean, isGiven}
+use Rattle.plan_tables.specs.Given.{Gives, Given, guestFor, atop, sectionsOf, planIn, roomyBy, roomy, zeroRest, isClear, clean, isGiven, ifGiven}
 use Rattle.plan_tables.specs.FlatLaws.{each-of, Holds, held-back, held-room}
 use Rattle.plan_tables.specs.LayoutLaws.{Named, Few, task-wide, vcpus-back, mutexes-back, opens-back, tasks-back, vcpus-over, mutexes-over, opens-over, tasks-over, tasks-zeros}
 
@@ -193,7 +194,7 @@ pub record Roomy (r : PlanRecord) (t : Tables) : Type 0 where
   pub tasks : r .tasks * taskWidth ≤ length (t .tasks)
 
 pub roomy-exactly : (r : PlanRecord) (t : Tables) → (roomy r t ≡ true) ↔ Roomy r t
-unfolding roomy
+unfolding roomyBy
 roomy-exactly r t =
     let e =
     both-exactly (leb-exactly (r .vcpus * vcpuWidth) (length (t .vcpus)))
@@ -202,6 +203,21 @@ roomy-exactly r t =
       λ h. let f = e .0 h in record { vcpus = f .0; mutexes = f .1 .0; opens = f .1 .1 .0; tasks = f .1 .1 .1 },
       λ h. e .1 (h .vcpus, (h .mutexes, (h .opens, h .tasks))),
     )
+
+-- room, with no product that could wrap
+room-same : (n w l : ℕ) → 0 < w → leb n (l / w) ≡ leb (n * w) l
+room-same n w l h =
+    both-ways (leb n (l / w)) (leb (n * w) l) (λ e. le-leb (n * w) l (le-div-iff-mul-le h .0 (leb-true n (l / w) e)))
+    (λ e. le-leb n (l / w) (le-div-iff-mul-le h .1 (leb-true (n * w) l e)))
+
+pub roomy-code :
+    (r : PlanRecord) (v m o k : ℕ) →
+    (leb (r .vcpus) (v / vcpuWidth) && (leb (r .mutexes) (m / mutexWidth) && (leb (r .opens) (o / openWidth) && leb (r .tasks) (k / taskWidth)))) ≡ roomyBy r v m o k
+unfolding roomyBy
+roomy-code r v m o k =
+    ap₂ _&&_ (room-same (r .vcpus) vcpuWidth v (omega arith))
+    (ap₂ _&&_ (room-same (r .mutexes) mutexWidth m (omega arith))
+    (ap₂ _&&_ (room-same (r .opens) openWidth o (omega arith)) (room-same (r .tasks) taskWidth k (omega arith))))
 
 -- WHAT THE TEST SAYS: room, zeros, and a valid plan in the tables
 pub record Tested (r : PlanRecord) (t : Tables) : Type 0 where
@@ -297,3 +313,11 @@ given-exactly r t = (
   λ h. let g = given-plan r t h in (planIn r t, g .0, g .1),
   λ g. tested-exactly r t .1 (given-tested (g .1) (g .2)),
 )
+
+-- WHAT IS ASKED of tables: of the plan in them where the test passes, and 9 where it does not
+module _ {A : Type 0} (r : PlanRecord) (t : Tables) (f : Plan → A) (no : A) where
+  pub if-given : isGiven r t ≡ true → ifGiven r t f no ≡ f (planIn r t)
+  if-given g = rw (g, ifGiven)
+
+  pub if-foreign : isGiven r t ≡ false → ifGiven r t f no ≡ no
+  if-foreign g = rw (g, ifGiven)

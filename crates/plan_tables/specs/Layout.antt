@@ -1,11 +1,12 @@
--- How lent rows hold a plan: the only place that knows a column.
+-- How lent rows of numbers hold a plan: the width of each table's row, what stands in its columns, and the rows read back.
 use Prim.Native.Nat.{ℕ, zero, suc, _+_, _-_, _*_}
 use mathlib.Core.List.{List, [], _∷_, _++_}
 use lib.ListN.{length, drop, getD}
 use Rattle.laws.specs.Sums.{flat}
 use Rattle.laws.specs.Rows.{rows}
 use Rattle.plan.specs.Limits.{maxLocks}
-use Rattle.plan.specs.Plan.{Vcpu, Owner, Global, Local, Mutex, Open, Lock, Task, Plan, tasksOf}
+use Rattle.plan.specs.declared.Lock.{Lock}
+use Rattle.plan.specs.Plan.{Vcpu, Owner, Global, Local, Mutex, Open, Task, Plan, tasksOf}
 pub use Rattle.plan_tables.specs.declared.PlanRecord.{PlanRecord}
 
 -- the numbers in a row of each table
@@ -66,6 +67,9 @@ pub record Tables : Type 0 where
   pub mutexes : List ℕ
   pub opens : List ℕ
   pub tasks : List ℕ
+
+abbrev pub lent : List ℕ → List ℕ → List ℕ → List ℕ → Tables
+lent vt mt ot ts = record { vcpus = vt; mutexes = mt; opens = ot; tasks = ts }
 
 -- cells at the front of a table, the rest of it as lent
 abbrev pub over : List ℕ → List ℕ → List ℕ

@@ -10,7 +10,8 @@ use Rattle.laws.specs.Sums.{flat, Each}
 use Rattle.laws.specs.SumLaws.{each-append, each-map, each-flat}
 use Rattle.laws.specs.RowLaws.{each-row}
 use Rattle.plan.specs.Limits.{maxV, maxGuest, maxM, maxN, maxPeriod, maxLength, maxTasks, maxLocks}
-use Rattle.plan.specs.Plan.{Vcpu, Owner, Global, Local, Mutex, Open, Lock, Task, Plan, tasksOf}
+use Rattle.plan.specs.declared.Lock.{Lock}
+use Rattle.plan.specs.Plan.{Vcpu, Owner, Global, Local, Mutex, Open, Task, Plan, tasksOf}
 use Rattle.plan.specs.Valid.{In, PairRises, VcpuValid, OwnerValid, MutexValid, LockValid, TaskValid, Valid}
 use Rattle.plan_tables.specs.Layout.{PlanRecord, Tables, vcpuWidth, mutexWidth, openWidth, taskWidth, zeros, vcpuCells, ownerCell, mutexCells, openCells, lockCells, taskCells, cell, vcpuRow, taskRow}
 use Rattle.plan_tables.specs.Given.{Gives, planIn, isGiven}

@@ -1,16 +1,35 @@
 // The tables: how lent rows of numbers hold a plan. specs/Layout says where each number stands.
 use plan::Fault;
+use plan::MAX_GUEST;
+use plan::MAX_LOCKS;
+use plan::MAX_M;
 use plan::OverrunChoice;
 use plan::Policy;
 ghost use mathlib.Core.Path.{_≡_};
 ghost use Prim.Native.Nat.{_≤_};
 ghost use lib.ListN.{getD};
 ghost use Rattle.laws.specs.Rows.{Is};
-ghost use Rattle.plan_tables.specs.Given.{isClear};
+ghost use Rattle.plan_tables.specs.Layout.{taskWidth};
+ghost use Rattle.plan_tables.specs.Given.{roomyBy, isClear};
 ghost use Rattle.plan_tables.specs.RowPlaces as places;
 
-// No more rows of a table are counted.
-pub const MOST: usize = 128;
+// The numbers in a row of each table (specs/Layout).
+pub const VCPU_WIDTH: usize = 5;
+
+pub const MUTEX_WIDTH: usize = 2;
+
+pub const OPEN_WIDTH: usize = 2;
+
+pub const LOCK_WIDTH: usize = 3;
+
+// Where the locks of a task begin.
+pub const FIRST_LOCK: usize = 5;
+
+// Five numbers, and eight locks.
+pub const TASK_WIDTH: usize = FIRST_LOCK + MAX_LOCKS as usize * LOCK_WIDTH;
+
+// No table of a plan has more rows: openings, a pair of mutex and guest each.
+pub const MOST: usize = MAX_M as usize * MAX_GUEST as usize;
 
 // The plan record: the policy, the overrun choice, and how many rows of each table are the plan's.
 pub struct PlanRecord {
@@ -39,9 +58,18 @@ pub fn is_clear(f: Fault) -> bool
     }
 }
 
+// Have tables of these lengths room for as many rows as a record counts?
+pub fn roomy(r: PlanRecord, v: usize, m: usize, o: usize, k: usize) -> bool
+    ensures { λ b. ⌜ b ≡ roomyBy r v m o k ⌝ }
+{
+    (r.vcpus <= v / VCPU_WIDTH)
+        & ((r.mutexes <= m / MUTEX_WIDTH)
+            & ((r.opens <= o / OPEN_WIDTH) & (r.tasks <= k / TASK_WIDTH)))
+}
+
 // Where row i of a table begins whose rows have w numbers.
 pub fn place(i: usize, w: usize) -> usize
-    requires { ⌜ w ≤ 29 ⌝ }
+    requires { ⌜ w ≤ taskWidth ⌝ }
     ensures { λ r. ⌜ Is r (places.place i w) 3712 ⌝ }
 {
     if i < MOST { i * w } else { 0 }
@@ -51,5 +79,5 @@ pub fn place(i: usize, w: usize) -> usize
 pub fn run_place(n: usize) -> usize
     ensures { λ r. ⌜ Is r (places.runPlace n) 3716 ⌝ }
 {
-    if n == 0 { 3 } else { place(n, 3) + 4 }
+    if n == 0 { 3 } else { place(n, LOCK_WIDTH) + 4 }
 }

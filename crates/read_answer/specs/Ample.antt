@@ -7,14 +7,14 @@ use native.Mathlib.Omega.{arith}
 use lib.ListN.{length}
 use Rattle.laws.specs.Bytes.{pieces}
 use Rattle.laws.specs.Choice.{if_then_else_}
-use Rattle.plan.specs.Limits.{lf, maxV, maxGuest, maxM, maxTasks}
+use Rattle.plan.specs.Limits.{lf, maxV, maxGuest, maxM, mostTasks}
 use Rattle.plan.specs.declared.Refusal.the-variants.{Room}
 use Rattle.plan.specs.Plan.{Plan}
 use Rattle.plan.specs.Valid.{Valid}
 use Rattle.plan.specs.Reading.{Reading, Accepts, Refuses, reading}
 use Rattle.plan.specs.Accepted.{read-text}
 use Rattle.plan_tables.specs.declared.PlanRecord.{PlanRecord}
-use Rattle.plan_tables.specs.Layout.{Tables, vcpuWidth, mutexWidth, openWidth, taskWidth, recordOf}
+use Rattle.plan_tables.specs.Layout.{Tables, lent, vcpuWidth, mutexWidth, openWidth, taskWidth, recordOf}
 use Rattle.plan_tables.specs.Given.{roomy}
 use Rattle.plan_tables.specs.GivenLaws.{roomy-exactly}
 use Rattle.plan_tables.specs.Sound.{valid-vcpus, valid-mutexes, valid-opens}
@@ -29,7 +29,7 @@ pub record Ample (t : Tables) : Type 0 where
   pub vcpus : maxV * vcpuWidth ≤ length (t .vcpus)
   pub mutexes : maxM * mutexWidth ≤ length (t .mutexes)
   pub opens : maxM * maxGuest * openWidth ≤ length (t .opens)
-  pub tasks : maxTasks * taskWidth ≤ length (t .tasks)
+  pub tasks : mostTasks * taskWidth ≤ length (t .tasks)
 
 pub ample-roomy : (p : Plan) (t : Tables) → Valid p → Ample t → roomy (recordOf p) t ≡ true
 unfolding recordOf
@@ -54,10 +54,8 @@ ample-answer s t a = judged-reading s ∙ go (reading s) refl
 -- the lines of an accepted plan leave what the reading leaves, in any tables with room
 pub accepted-left :
     (s : List ℕ) (t : Tables) (r : PlanRecord) → planAnswer s t ≡ Accepted r →
-    _≡_ {A = Tables}
-    (record { vcpus = linesLeft vcpuPut s (t .vcpus); mutexes = linesLeft mutexPut s (t .mutexes); opens = linesLeft openPut s (t .opens); tasks = linesLeft taskPut s (t .tasks) })
-    (tablesAfter s t)
+    lent (linesLeft vcpuPut s (t .vcpus)) (linesLeft mutexPut s (t .mutexes)) (linesLeft openPut s (t .opens)) (linesLeft taskPut s (t .tasks)) ≡ tablesAfter s t
 unfolding leftIf
 accepted-left s t r e =
     let l : Left s t true = read-left s t (Accepted r) true (sym e) refl in
-    λ i. record { vcpus = l .vcpus i; mutexes = l .mutexes i; opens = l .opens i; tasks = l .tasks i }
+    λ i. lent (l .vcpus i) (l .mutexes i) (l .opens i) (l .tasks i)

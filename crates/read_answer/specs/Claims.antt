@@ -30,7 +30,7 @@ use Rattle.read_answer.specs.JudgedLaws.{after-filled, after-kept, after
 -- WHY AN ANSWER IS GIVEN
 
 -- a plan with room
-pub record Fits (s : List ℕ) (t : Tables) (r : PlanRecord) (p : Plan) : Type 0 where
+pub record WithRoom (s : List ℕ) (t : Tables) (r : PlanRecord) (p : Plan) : Type 0 where
   pub reads : reading s ≡ Accepts p
   pub room : roomy (recordOf p) t ≡ true
   pub recorded : r ≡ recordOf p
@@ -62,23 +62,23 @@ filled-again p t =
     }
 
 module _ (s : List ℕ) (t : Tables) where
-  accepted-why : (r : PlanRecord) → planAnswer s t ≡ Accepted r → (p : Plan) × Fits s t r p
+  accepted-why : (r : PlanRecord) → planAnswer s t ≡ Accepted r → (p : Plan) × WithRoom s t r p
   unfolding planAnswer
   accepted-why r h = go (reading s) refl h
     where
       at :
           (p : Plan) → reading s ≡ Accepts p → (b : Bool) → roomy (recordOf p) t ≡ b → (if b then Accepted (recordOf p) else Refused Room 0) ≡ Accepted r →
-          (p : Plan) × Fits s t r p
+          (p : Plan) × WithRoom s t r p
       at p e true q h = let z : recordOf p ≡ r = cc in (p, record { reads = e; room = q; recorded = sym z })
       at p e false q h = absurd (let z : _≡_ {A = ℕ} 0 1 = cc in omega arith)
 
-      go : (x : Reading) → reading s ≡ x → answerInto x t ≡ Accepted r → (p : Plan) × Fits s t r p
+      go : (x : Reading) → reading s ≡ x → answerInto x t ≡ Accepted r → (p : Plan) × WithRoom s t r p
       go (Accepts p) e h = at p e (roomy (recordOf p) t) refl h
       go (Refuses x l) e h = absurd (let z : _≡_ {A = ℕ} 0 1 = cc in omega arith)
 
-  fits-accepted : (r : PlanRecord) (p : Plan) → Fits s t r p → planAnswer s t ≡ Accepted r
+  room-accepted : (r : PlanRecord) (p : Plan) → WithRoom s t r p → planAnswer s t ≡ Accepted r
   unfolding planAnswer
-  fits-accepted r p h =
+  room-accepted r p h =
       ap (λ x. answerInto x t) (h .reads) ∙ ap (λ b. if b then Accepted (recordOf p) else Refused Room 0) (h .room) ∙ ap Accepted (sym (h .recorded))
 
   refused-why : (x : Refusal) (l : ℕ) → planAnswer s t ≡ Refused x l → (reading s ≡ Refuses x l) ⊎ ((x ≡ Room) × (l ≡ 0) × ((p : Plan) × Lacks s t p))
@@ -156,7 +156,7 @@ module _ (s : List ℕ) (t : Tables) where
         let v = read-text s (w .0) (w .1 .reads) in
         (w .0, v .0, v .1, roomy-exactly (recordOf (w .0)) t .0 (w .1 .room), w .1 .recorded),
     λ h.
-        fits-accepted r (h .0)
+        room-accepted r (h .0)
         (record { reads = ap reading (h .2) ∙ text-read (h .0) (h .1); room = roomy-exactly (recordOf (h .0)) t .1 (h .3); recorded = h .4 }),
   )
 

@@ -1,8 +1,7 @@
 -- What the code of the reader answers and leaves, step by step.
-use Prim.Native.Nat.{ℕ, _*_}
+use Prim.Native.Nat.{ℕ}
 use mathlib.Core.List.{List, [], _∷_}
-use mathlib.Core.Bool.{Bool, true, false, cond, _&&_}
-use lib.Dec.{leb}
+use mathlib.Core.Bool.{Bool, true, false, cond}
 use Rattle.laws.specs.Bytes.{pieces, isNil}
 use Rattle.plan.specs.Limits.{lf}
 use Rattle.plan.specs.declared.Refusal.the-variants.{Shape, Room}
@@ -10,8 +9,7 @@ use Rattle.plan.specs.declared.Fault.{Fault}
 use Rattle.plan.specs.declared.Fault.the-variants.{Clear, Bad}
 use Rattle.plan.specs.Reading.{Verdict, Faultless, FirstBad, judge, faultOf, nextOf}
 use Rattle.plan_tables.specs.declared.PlanRecord.{PlanRecord}
-use Rattle.plan_tables.specs.Layout.{Tables, vcpuWidth, mutexWidth, openWidth, taskWidth}
-use Rattle.plan_tables.specs.Given.{isClear}
+use Rattle.plan_tables.specs.Given.{roomyBy, isClear}
 use Rattle.text_lines.specs.declared.Said.{Said}
 use Rattle.text_lines.specs.Said.{saidOf, saidItem}
 use Rattle.judge_coded.specs.declared.Seen.{Seen}
@@ -38,10 +36,6 @@ finishBy true t n = Accepted (recordIn t)
 finishBy false t n = Refused Shape n
 
 -- ROOM
-unfoldable pub roomyBy : PlanRecord → ℕ → ℕ → ℕ → ℕ → Bool
-roomyBy r v m o k =
-    leb (r .vcpus * vcpuWidth) v && (leb (r .mutexes * mutexWidth) m && (leb (r .opens * openWidth) o && leb (r .tasks * taskWidth) k))
-
 unfoldable pub roomOr : Bool → PlanRecord → PlanAnswer
 roomOr true r = Accepted r
 roomOr false r = Refused Room 0
@@ -55,9 +49,6 @@ isAccepted (Accepted r) = true
 isAccepted (Refused x l) = false
 
 -- TABLES
-abbrev pub lent : List ℕ → List ℕ → List ℕ → List ℕ → Tables
-lent v m o k = record { vcpus = v; mutexes = m; opens = o; tasks = k }
-
 -- what lines write into a table, after what is seen and tallied: each line before the first with a fault; the last piece is no line
 unfoldable pub leftFrom : (Tally → Said → List ℕ → List ℕ) → Seen → Tally → List ℕ → List (List ℕ) → List ℕ
 leftFrom put t c d [] = d

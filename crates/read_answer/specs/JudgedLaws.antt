@@ -1,13 +1,13 @@
 -- The code of the reader answers what it should: line by line, with room, and in the tables.
-use Prim.Native.Nat.{ℕ, suc, _+_, _*_, _/_, _≤_, _<_}
+use Prim.Native.Nat.{ℕ, suc, _+_, _≤_}
 use mathlib.Core.Path.{_≡_, refl, ap, sym, _∙_}
 use mathlib.Core.List.{List, [], _∷_}
 use mathlib.Core.Option.{none}
 use mathlib.Core.Bool.{Bool, true, false, cond, _&&_, false≢true, true≢false}
 use native.Mathlib.Omega.{arith}
-use lib.Dec.{eqb, leb}
+use lib.Dec.{eqb}
 use lib.ListN.{length, drop}
-use borrow.Author.Tests.{leb-true, leb-false, le-leb, ne-eqb}
+use borrow.Author.Tests.{ne-eqb}
 use Rattle.laws.specs.Bytes.{pieces, same, isNil}
 use Rattle.laws.specs.BytesLaws.{pieces-some}
 use Rattle.laws.specs.Choice.{if_then_else_}
@@ -21,11 +21,12 @@ use Rattle.plan.specs.declared.Fault.{Fault}
 use Rattle.plan.specs.declared.Fault.the-variants.{Clear, Bad}
 use Rattle.plan.specs.Line.{shape, hasShape, kindIn, itemOf}
 use Rattle.plan.specs.Plan.{Plan}
-use Rattle.plan.specs.Reading.{Verdict, Faultless, FirstBad, judge, fault, faultOf, nextOf, onward, itemsIn, planOf, answer, Reading, Accepts, Refuses, readingBy, reading}
+use Rattle.plan.specs.Reading.{Verdict, Faultless, FirstBad, judge, fault, faultOf, nextOf, onward, answer, Reading, Accepts, Refuses, readingBy, reading}
+use Rattle.plan.specs.Gathered.{itemsIn, planOf}
 use Rattle.plan.specs.Accepted.{read-text}
 use Rattle.plan_tables.specs.declared.PlanRecord.{PlanRecord}
 use Rattle.plan_tables.specs.Layout.{Tables, filled, recordOf}
-use Rattle.plan_tables.specs.Given.{roomy, isClear}
+use Rattle.plan_tables.specs.Given.{roomyBy, roomy, isClear}
 use Rattle.plan_tables.specs.GivenLaws.{roomy-exactly}
 use Rattle.text_lines.specs.declared.Said.{Said}
 use Rattle.text_lines.specs.Said.{saidOf, saidItem}
@@ -43,7 +44,7 @@ use Rattle.read_tally.specs.TallyLaws.{text-record}
 use Rattle.read_fill.specs.Fill.{filledBy, vcpuPut, mutexPut, openPut, taskPut}
 use Rattle.read_fill.specs.PlanLaws.{tablesBy, text-tables}
 use Rattle.read_answer.specs.Into.{PlanAnswer, Accepted, Refused, answerInto, tablesInto, planAnswer, tablesAfter}
-use Rattle.read_answer.specs.Judged.{answerBy, judgedFrom, refusedBy, finishBy, roomyBy, roomOr, withRoom, isAccepted, leftFrom, linesLeft, leftIf}
+use Rattle.read_answer.specs.Judged.{answerBy, judgedFrom, refusedBy, finishBy, roomOr, withRoom, isAccepted, leftFrom, linesLeft, leftIf}
 
 -- ONE LINE, the one that begins at `at`
 
@@ -125,34 +126,10 @@ judged-reading s = go (judge coded start 1 (pieces lf s)) refl
         let q : reading s ≡ Refuses x l = sym (same-reading s) ∙ ap (λ v. answer v p) e in
         ap roomless (sym q)
 
-leb-alike : (a b c d : ℕ) → (a ≤ b → c ≤ d) → (c ≤ d → a ≤ b) → leb a b ≡ leb c d
-leb-alike a b c d f g = go (leb a b) refl
-  where
-    go-false : (y : Bool) → leb c d ≡ y → leb a b ≡ false → false ≡ leb c d
-    go-false true q e = absurd (let l : b < a = leb-false a b e in let m : a ≤ b = g (leb-true c d q) in omega arith)
-    go-false false q e = sym q
-
-    go : (x : Bool) → leb a b ≡ x → x ≡ leb c d
-    go true e = sym (le-leb c d (f (leb-true a b e)))
-    go false e = go-false (leb c d) refl e
-
-pub roomy-code : (r : PlanRecord) (v m o k : ℕ) → (leb (r .vcpus) (v / 5) && (leb (r .mutexes) (m / 2) && (leb (r .opens) (o / 2) && leb (r .tasks) (k / 29)))) ≡ roomyBy r v m o k
-unfolding roomyBy
-roomy-code r v m o k =
-    let a : leb (r .vcpus) (v / 5) ≡ leb (r .vcpus * 5) v = leb-alike (r .vcpus) (v / 5) (r .vcpus * 5) v (λ h. omega arith) (λ h. omega arith) in
-    let b : leb (r .mutexes) (m / 2) ≡ leb (r .mutexes * 2) m = leb-alike (r .mutexes) (m / 2) (r .mutexes * 2) m (λ h. omega arith) (λ h. omega arith) in
-    let c : leb (r .opens) (o / 2) ≡ leb (r .opens * 2) o = leb-alike (r .opens) (o / 2) (r .opens * 2) o (λ h. omega arith) (λ h. omega arith) in
-    let d : leb (r .tasks) (k / 29) ≡ leb (r .tasks * 29) k = leb-alike (r .tasks) (k / 29) (r .tasks * 29) k (λ h. omega arith) (λ h. omega arith) in
-    rw (a, b, c, d)
-
-room-or : (r : PlanRecord) (t : Tables) →
-    roomOr (roomyBy r (length (t .vcpus)) (length (t .mutexes)) (length (t .opens)) (length (t .tasks))) r ≡ (if roomy r t then Accepted r else Refused Room 0)
-unfolding roomyBy roomy
-room-or r t = go (roomy r t)
-  where
-    go : (b : Bool) → roomOr b r ≡ (if b then Accepted r else Refused Room 0)
-    go true = unfold roomOr in refl
-    go false = unfold roomOr in refl
+room-or : (r : PlanRecord) (b : Bool) → roomOr b r ≡ (if b then Accepted r else Refused Room 0)
+unfolding roomOr
+room-or r true = refl
+room-or r false = refl
 
 -- THE ANSWER
 pub room-answer : (s : List ℕ) (t : Tables) → withRoom (roomless (reading s)) (length (t .vcpus)) (length (t .mutexes)) (length (t .opens)) (length (t .tasks)) ≡ planAnswer s t
@@ -160,7 +137,7 @@ unfolding planAnswer
 room-answer s t = go (reading s)
   where
     go : (x : Reading) → withRoom (roomless x) (length (t .vcpus)) (length (t .mutexes)) (length (t .opens)) (length (t .tasks)) ≡ answerInto x t
-    go (Accepts p) = room-or (recordOf p) t
+    go (Accepts p) = room-or (recordOf p) (roomy (recordOf p) t)
     go (Refuses x l) = refl
 
 -- THE TABLES

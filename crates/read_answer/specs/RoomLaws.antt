@@ -1,22 +1,27 @@
 -- A reading is refused by 1 to 7 only: 8 is given for no fault.
 use Prim.Native.Nat.{ℕ, _+_, _≤_}
-use mathlib.Core.Path.{_≡_}
+use mathlib.Core.Path.{_≡_, refl}
 use mathlib.Core.List.{List, [], _∷_}
 use mathlib.Core.Option.{Option, some, none}
 use mathlib.Core.Bool.{Bool, true, false, cond, _&&_}
 use native.Mathlib.Omega.{arith}
+use borrow.Author.Tests.{leb-true}
+use lib.Dec.{leb}
+use Rattle.laws.specs.BoolLaws.{both-left, both-right}
+use Rattle.laws.specs.Sums.{all}
 use Rattle.laws.specs.Bytes.{pieces, isNil}
 use Rattle.plan.specs.Limits.{lf}
 use Rattle.plan.specs.declared.Refusal.{Refusal}
-use Rattle.plan.specs.declared.Refusal.the-variants.{Shape, Number, Range, Order, Missing, Outside, TooMany, Room}
+use Rattle.plan.specs.declared.Refusal.the-variants.{Shape, Number, Room}
 use Rattle.plan.specs.declared.Fault.{Fault}
 use Rattle.plan.specs.declared.Fault.the-variants.{Clear, Bad}
 use Rattle.plan.specs.declared.Kind.{Kind}
-use Rattle.plan.specs.declared.Kind.the-variants.{PlanLine, PolicyPO, PolicyPN, PolicyDO, PolicyDN, VcpuLine, MutexG, MutexL, OpenLine, GuestLine, TaskLine, RunLine, LockLine, EndLine, AskLine, FreeLine, UseLine, TopLine, ShowLine}
 use Rattle.plan.specs.Refusals.{numberOf, unless}
 use Rattle.plan.specs.Line.{Item, itemOf}
-use Rattle.plan.specs.Rules.{Known, start, rule}
-use Rattle.plan.specs.Reading.{Verdict, Faultless, FirstBad, rules, fault, faultOf, nextOf, onward, judge, answer, itemsIn, planOf, Refuses, readingBy, reading}
+use Rattle.plan.specs.Rules.{Known, start, Test, firstFailed, testsOf, rule}
+use Rattle.plan.specs.Reading.{Verdict, Faultless, FirstBad, rules, fault, faultOf, nextOf, onward, judge, answer, Refuses, readingBy, reading}
+use Rattle.plan.specs.Gathered.{itemsIn, planOf}
+use Rattle.plan.specs.KindLaws.{all-kind}
 
 abbrev Low : Fault → Type 0
 Low Clear = Unit {0}
@@ -27,30 +32,21 @@ unfolding unless
 unless-low true r f h k = k
 unless-low false r f h k = h
 
+-- among tests of numbers up to 7 the refusal has such a number
+first-low : (xs : List Test) → all (λ x. leb (numberOf (x .refusal)) 7) xs ≡ true → Low (firstFailed xs)
+unfolding all
+first-low [] h = tt
+first-low (x ∷ xs) h =
+    let l = leb (numberOf (x .refusal)) 7 in
+    unless-low (x .holds) (x .refusal) (firstFailed xs) (leb-true _ _ (both-left l _ h)) (first-low xs (both-right l _ h))
+
+tests-low : (t : Known) (k : Kind) (ns : List ℕ) → all (λ x. leb (numberOf (x .refusal)) 7) (testsOf t k ns) ≡ true
+unfolding testsOf numberOf all
+tests-low t k ns = all-kind (λ k. all (λ x. leb (numberOf (x .refusal)) 7) (testsOf t k ns)) refl k
+
 rule-low : (t : Known) (k : Kind) (ns : List ℕ) → Low (rule t k ns)
-unfolding rule numberOf
-rule-low t PlanLine ns = tt
-rule-low t PolicyPO ns = tt
-rule-low t PolicyPN ns = tt
-rule-low t PolicyDO ns = tt
-rule-low t PolicyDN ns = tt
-rule-low t VcpuLine ns = unless-low _ Range _ (omega arith) (unless-low _ Order _ (omega arith) tt)
-rule-low t MutexG ns = unless-low _ Range _ (omega arith) (unless-low _ Order _ (omega arith) tt)
-rule-low t MutexL ns = unless-low _ Range _ (omega arith) (unless-low _ Order _ (omega arith) (unless-low _ Missing _ (omega arith) tt))
-rule-low t OpenLine ns = unless-low _ Range _ (omega arith) (unless-low _ Order _ (omega arith) (unless-low _ Missing _ (omega arith) tt))
-rule-low t GuestLine ns = unless-low _ Range _ (omega arith) (unless-low _ Order _ (omega arith) (unless-low _ Missing _ (omega arith) tt))
-rule-low t TaskLine ns =
-    unless-low _ Range _ (omega arith)
-    (unless-low _ Order _ (omega arith) (unless-low _ Missing _ (omega arith) (unless-low _ Outside _ (omega arith) (unless-low _ TooMany _ (omega arith) tt))))
-rule-low t RunLine ns = unless-low _ Range _ (omega arith) tt
-rule-low t LockLine ns =
-    unless-low _ Range _ (omega arith) (unless-low _ Missing _ (omega arith) (unless-low _ Outside _ (omega arith) (unless-low _ TooMany _ (omega arith) tt)))
-rule-low t EndLine ns = tt
-rule-low t AskLine ns = tt
-rule-low t FreeLine ns = tt
-rule-low t UseLine ns = tt
-rule-low t TopLine ns = tt
-rule-low t ShowLine ns = tt
+unfolding rule
+rule-low t k ns = first-low (testsOf t k ns) (tests-low t k ns)
 
 fault-low : (t : Known) (o : Option Item) → Low (faultOf rules t o)
 unfolding fault numberOf

@@ -39,13 +39,6 @@ pub fn finish(ok: bool, t: Tally, n: usize) -> PlanAnswer
     }
 }
 
-// Have tables of these lengths room for a plan's rows?
-fn roomy(r: PlanRecord, v: usize, m: usize, o: usize, k: usize) -> bool
-    ensures { λ b. ⌜ b ≡ judged.roomyBy r v m o k ⌝ }
-{
-    (r.vcpus <= v / 5) & ((r.mutexes <= m / 2) & ((r.opens <= o / 2) & (r.tasks <= k / 29)))
-}
-
 // The answer for a plan with no fault.
 fn room_or(ok: bool, r: PlanRecord) -> PlanAnswer
     ensures { λ a. ⌜ a ≡ judged.roomOr ok r ⌝ }
@@ -65,7 +58,7 @@ pub fn with_room(a: PlanAnswer, v: usize, m: usize, o: usize, k: usize) -> PlanA
     ensures { λ r. ⌜ r ≡ judged.withRoom a v m o k ⌝ }
 {
     match a {
-        PlanAnswer::Accepted(r) => room_or(roomy(r, v, m, o, k), r),
+        PlanAnswer::Accepted(r) => room_or(plan_tables::roomy(r, v, m, o, k), r),
         PlanAnswer::Refused { number: _, line: _ } => a,
     }
 }

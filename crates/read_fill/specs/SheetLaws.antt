@@ -14,7 +14,8 @@ use Rattle.plan.specs.Limits.{maxLocks}
 use Rattle.plan.specs.declared.Kind.{Kind}
 use Rattle.plan.specs.declared.Kind.the-variants.{PlanLine, GuestLine, TaskLine, LockLine, EndLine}
 use Rattle.plan.specs.Line.{Item}
-use Rattle.plan.specs.Plan.{Lock, Task, Section, Plan, tasksOf}
+use Rattle.plan.specs.declared.Lock.{Lock}
+use Rattle.plan.specs.Plan.{Task, Section, Plan, tasksOf}
 use Rattle.plan.specs.declared.Policy.{Policy}
 use Rattle.plan.specs.declared.Policy.the-variants.{Periodic, Deferrable}
 use Rattle.plan.specs.declared.OverrunChoice.{OverrunChoice}
@@ -61,10 +62,10 @@ set-deep P A L X m j x e =
 
 module _ (P : List ℕ) (k : ℕ) (l : length P ≡ k) (v n p : ℕ) where
   task-sets :
-      (Q : List ℕ) → 29 ≤ length Q → set (set (set (wiped (P ++ Q) k 29) k v) (k + 1) n) (k + 2) p ≡ shown P v n p 0 0 [] 24 (drop 29 Q)
+      (Q : List ℕ) → taskWidth ≤ length Q → set (set (set (wiped (P ++ Q) k taskWidth) k v) (k + 1) n) (k + 2) p ≡ shown P v n p 0 0 [] 24 (drop taskWidth Q)
   task-sets Q h =
-      let R : List ℕ = zeros 29 ++ drop 29 Q in
-      ap (λ x. set (set (set x k v) (k + 1) n) (k + 2) p) (wiped-part P Q k 29 l h)
+      let R : List ℕ = zeros taskWidth ++ drop taskWidth Q in
+      ap (λ x. set (set (set x k v) (k + 1) n) (k + 2) p) (wiped-part P Q k taskWidth l h)
       ∙ ap (λ x. set (set x (k + 1) n) (k + 2) p) (set-right P R k 0 v (omega arith))
       ∙ ap (λ x. set x (k + 2) p) (set-right P (set R 0 v) (k + 1) 1 n (omega arith))
       ∙ set-right P (set (set R 0 v) 1 n) (k + 2) 2 p (omega arith)
@@ -89,15 +90,15 @@ module _ (P : List ℕ) (k : ℕ) (l : length P ≡ k) (v n p : ℕ) where
       ∙ ap (λ y. P ++ (A ++ y)) (sym (append-assoc L (m ∷ x ∷ a ∷ []) Z))
 
 -- THE LINES OF A TASK
-module _ (P : List ℕ) (i : ℕ) (l : length P ≡ i * 29) (few : i < most) (v n p : ℕ) where
+module _ (P : List ℕ) (i : ℕ) (l : length P ≡ i * taskWidth) (few : i < most) (v n p : ℕ) where
   task-run :
-      (t : Tally) (f : ℕ) (Q : List ℕ) → t .tasks ≡ i → 29 ≤ length Q →
-      taskPut (tallyBy t 8) (sayOf (runItem f)) (taskPut t (sayOf (item TaskLine (v ∷ n ∷ p ∷ []))) (P ++ Q)) ≡ shown P v n p f 0 [] 24 (drop 29 Q)
+      (t : Tally) (f : ℕ) (Q : List ℕ) → t .tasks ≡ i → taskWidth ≤ length Q →
+      taskPut (tallyBy t 8) (sayOf (runItem f)) (taskPut t (sayOf (item TaskLine (v ∷ n ∷ p ∷ []))) (P ++ Q)) ≡ shown P v n p f 0 [] 24 (drop taskWidth Q)
   unfolding taskPut lockPut runPut taskLinePut putIf markOf tallyBy locksBy bumped place runPlace wiped
   task-run t f Q e h =
       let g : ltb i most ≡ true = lt-ltb i most few in
       let s : i + 1 - 1 ≡ i = omega arith in
-      simp (e, g, s) (ap (λ x. set x (i * 29 + 3) f) (task-sets P (i * 29) l v n p Q h) ∙ run-sets P (i * 29) l v n p 0 0 f [] (drop 29 Q) 24)
+      simp (e, g, s) (ap (λ x. set x (i * taskWidth + 3) f) (task-sets P (i * taskWidth) l v n p Q h) ∙ run-sets P (i * taskWidth) l v n p 0 0 f [] (drop taskWidth Q) 24)
 
   lock-run :
       (t : Tally) (f j m x a : ℕ) (L R : List ℕ) (z : ℕ) → t .tasks ≡ i + 1 → t .locks ≡ j → j < maxLocks → length L ≡ j * 3 →
@@ -110,7 +111,7 @@ module _ (P : List ℕ) (i : ℕ) (l : length P ≡ i * 29) (few : i < most) (v 
       let y : ltb j most ≡ true = lt-ltb j most (omega arith) in
       let w : ltb (j + 1) most ≡ true = lt-ltb (j + 1) most (omega arith) in
       let q : eqb (j + 1) 0 ≡ false = ne-eqb (j + 1) 0 (λ e. omega arith) in
-      simp (e, d, g, s, y, w, q) (lock-sets P (i * 29) l v n p f j j m x a L R z h)
+      simp (e, d, g, s, y, w, q) (lock-sets P (i * taskWidth) l v n p f j j m x a L R z h)
 
 -- a line that is none of a task's writes nothing
 skip-put : (t : Tally) (k : Kind) (ns : List ℕ) (d : List ℕ) → ltb (markOf k) 8 ≡ true → taskPut t (sayOf (item k ns)) d ≡ d
@@ -181,7 +182,7 @@ module _ (X : List ℕ) where
   skip d k ns is i o h u e =
       ap (λ x. filledItems taskPut (tallyBy u (markOf k)) x is) (skip-put u k ns d o) ∙ h (tallyBy u (markOf k)) (skip-tasks u (markOf k) o ∙ e)
 
-  module _ (P : List ℕ) (i : ℕ) (l : length P ≡ i * 29) (few : i < most) (v n p f z : ℕ) (R : List ℕ) where
+  module _ (P : List ℕ) (i : ℕ) (l : length P ≡ i * taskWidth) (few : i < most) (v n p f z : ℕ) (R : List ℕ) where
     locks-filled :
         (ls : List Lock) (is : List Item) (t : Tally) (j : ℕ) (L : List ℕ) → t .tasks ≡ i + 1 → t .locks ≡ j → j + length ls ≤ maxLocks → length L ≡ j * 3 →
         Makes (i + 1) (shown P v n p f (j + length ls) (L ++ flat lockCells ls) z R) is →
@@ -204,13 +205,13 @@ module _ (X : List ℕ) where
         (rw (a, ← append-assoc L (lockCells r) (flat lockCells rs)) at k))
 
   tasks-filled :
-      (ks : List Task) (is : List Item) (t : Tally) (i : ℕ) (P Q : List ℕ) → t .tasks ≡ i → length P ≡ i * 29 → i + length ks ≤ most → Each Few ks → length ks * 29 ≤ length Q →
-      Makes (i + length ks) (P ++ (flat taskCells ks ++ drop (length ks * 29) Q)) is → filledItems taskPut t (P ++ Q) (taskItems ks is) ≡ X
+      (ks : List Task) (is : List Item) (t : Tally) (i : ℕ) (P Q : List ℕ) → t .tasks ≡ i → length P ≡ i * taskWidth → i + length ks ≤ most → Each Few ks → length ks * taskWidth ≤ length Q →
+      Makes (i + length ks) (P ++ (flat taskCells ks ++ drop (length ks * taskWidth) Q)) is → filledItems taskPut t (P ++ Q) (taskItems ks is) ≡ X
   unfolding taskItems flat markOf
   tasks-filled [] is t i P Q e l m w h k = k t (omega (arith, e))
   tasks-filled (r ∷ rs) is t i P Q e l m w h k =
       let z : ℕ = (maxLocks - length (r .locks)) * 3 in
-      let R : List ℕ = drop 29 Q in
+      let R : List ℕ = drop taskWidth Q in
       let C : List ℕ = taskCells r in
       let b : i < most = omega arith in
       let g : 24 ≡ length (r .locks) * 3 + z = omega (arith, w .0) in
@@ -220,13 +221,13 @@ module _ (X : List ℕ) where
       ∙ locks-filled P i l b (r .v) (r .n) (r .period) (r .first) z R (r .locks) (taskItems rs is) u 0 [] (task-next t i e b) (unfold tallyBy locksBy bumped in refl) (omega (arith, w .0)) (omega arith)
       (λ x f.
       ap (λ d. filledItems taskPut x d (taskItems rs is)) (row-shown P R r)
-      ∙ tasks-filled rs is x (i + 1) (P ++ C) R f (omega (arith, length-append P C, task-wide r (w .0))) (omega arith) (w .1) (omega (arith, length-drop 29 Q))
-      (λ y q. ap (λ d. filledItems taskPut y d is) (rows-joined P C (flat taskCells rs) Q 29 (length rs * 29) (suc (length rs) * 29) (omega arith)) ∙ k y (q ∙ omega arith)))
+      ∙ tasks-filled rs is x (i + 1) (P ++ C) R f (omega (arith, length-append P C, task-wide r (w .0))) (omega arith) (w .1) (omega (arith, length-drop taskWidth Q))
+      (λ y q. ap (λ d. filledItems taskPut y d is) (rows-joined P C (flat taskCells rs) Q taskWidth (length rs * taskWidth) (suc (length rs) * taskWidth) (omega arith)) ∙ k y (q ∙ omega arith)))
 
   sections-filled :
-      (ss : List Section) (is : List Item) (t : Tally) (i : ℕ) (P Q : List ℕ) → t .tasks ≡ i → length P ≡ i * 29 → i + length (tasksOf ss) ≤ most → Each (λ s. Each Few (s .tasks)) ss →
-      length (tasksOf ss) * 29 ≤ length Q →
-      Makes (i + length (tasksOf ss)) (P ++ (flat taskCells (tasksOf ss) ++ drop (length (tasksOf ss) * 29) Q)) is → filledItems taskPut t (P ++ Q) (sectionItems ss is) ≡ X
+      (ss : List Section) (is : List Item) (t : Tally) (i : ℕ) (P Q : List ℕ) → t .tasks ≡ i → length P ≡ i * taskWidth → i + length (tasksOf ss) ≤ most → Each (λ s. Each Few (s .tasks)) ss →
+      length (tasksOf ss) * taskWidth ≤ length Q →
+      Makes (i + length (tasksOf ss)) (P ++ (flat taskCells (tasksOf ss) ++ drop (length (tasksOf ss) * taskWidth) Q)) is → filledItems taskPut t (P ++ Q) (sectionItems ss is) ≡ X
   unfolding sectionItems tasksOf flat markOf
   sections-filled [] is t i P Q e l m w h k = k t (omega (arith, e))
   sections-filled (s ∷ ss) is t i P Q e l m w h k =
@@ -234,16 +235,16 @@ module _ (X : List ℕ) where
       let b : ℕ = length (tasksOf ss) in
       let n : length (s .tasks ++ tasksOf ss) ≡ a + b = length-append (s .tasks) (tasksOf ss) in
       let C : List ℕ = flat taskCells (s .tasks) in
-      let c : length C ≡ a * 29 = flat-length taskCells 29 (s .tasks) (each-map (s .tasks) task-wide (w .0)) in
+      let c : length C ≡ a * taskWidth = flat-length taskCells taskWidth (s .tasks) (each-map (s .tasks) task-wide (w .0)) in
       skip (P ++ Q) GuestLine (s .guest ∷ []) (taskItems (s .tasks) (sectionItems ss is)) i refl
       (λ u e. tasks-filled (s .tasks) (sectionItems ss is) u i P Q e l (omega (arith, n)) (w .0) (omega (arith, n))
       (λ x f.
-      ap (λ d. filledItems taskPut x d (sectionItems ss is)) (sym (append-assoc P C (drop (a * 29) Q)))
-      ∙ sections-filled ss is x (i + a) (P ++ C) (drop (a * 29) Q) f (omega (arith, length-append P C, c)) (omega (arith, n)) (w .1) (omega (arith, n, length-drop (a * 29) Q))
+      ap (λ d. filledItems taskPut x d (sectionItems ss is)) (sym (append-assoc P C (drop (a * taskWidth) Q)))
+      ∙ sections-filled ss is x (i + a) (P ++ C) (drop (a * taskWidth) Q) f (omega (arith, length-append P C, c)) (omega (arith, n)) (w .1) (omega (arith, n, length-drop (a * taskWidth) Q))
       (λ y q.
       ap (λ d. filledItems taskPut y d is)
-      (rows-joined P C (flat taskCells (tasksOf ss)) Q (a * 29) (b * 29) ((a + b) * 29) (omega arith)
-      ∙ ap₂ (λ F m. P ++ (F ++ drop (m * 29) Q)) (sym (flat-append taskCells (s .tasks) (tasksOf ss))) (sym n))
+      (rows-joined P C (flat taskCells (tasksOf ss)) Q (a * taskWidth) (b * taskWidth) ((a + b) * taskWidth) (omega arith)
+      ∙ ap₂ (λ F m. P ++ (F ++ drop (m * taskWidth) Q)) (sym (flat-append taskCells (s .tasks) (tasksOf ss))) (sym n))
       ∙ k y (q ∙ omega (arith, n)))))
       t e
 
@@ -255,7 +256,7 @@ module _ (p : Plan) (d : List ℕ) where
   unfolding itemsOf markOf filledItems
   tasks-filled-all m w h =
       let ks : List Task = tasksOf (p .sections) in
-      let X : List ℕ = flat taskCells ks ++ drop (length ks * 29) d in
+      let X : List ℕ = flat taskCells ks ++ drop (length ks * taskWidth) d in
       let K : List Item → Type 0 = Makes X 0 d in
       let ok : Kind → Bool = λ k. ltb (markOf k) 8 in
       let s : (k : Kind) (ns : List ℕ) (is : List Item) → ok k ≡ true → K is → K (item k ns ∷ is) = λ k ns is o h. skip X d k ns is 0 o h in
@@ -265,4 +266,4 @@ module _ (p : Plan) (d : List ℕ) where
       over-vcpus K ok s refl (p .vcpus) (fromMutexes p) (over-mutexes K ok s refl refl (p .mutexes) (fromOpens p) (over-opens K ok s refl (p .opens) (fromSections p) z)) in
       s PlanLine [] (item (policyKind (p .policy) (p .overrun)) [] ∷ fromVcpus p) refl
       (s (policyKind (p .policy) (p .overrun)) [] (fromVcpus p) (policy-low (p .policy) (p .overrun)) y) blank refl
-      ∙ ap (λ n. flat taskCells ks ++ drop n d) (sym (flat-length taskCells 29 ks (each-map ks task-wide (few-all (p .sections) w))))
+      ∙ ap (λ n. flat taskCells ks ++ drop n d) (sym (flat-length taskCells taskWidth ks (each-map ks task-wide (few-all (p .sections) w))))

@@ -1,9 +1,14 @@
 // The rows of a plan's lines: their cells in lent tables. What they mean stands in specs/Fill.
+use plan_tables::MUTEX_WIDTH;
+use plan_tables::OPEN_WIDTH;
+use plan_tables::TASK_WIDTH;
+use plan_tables::VCPU_WIDTH;
 use read_tally::Tally;
 use text_lines::Said;
 ghost use mathlib.Core.Path.{_≡_};
 ghost use Prim.Native.Nat.{_≤_};
 ghost use Rattle.laws.specs.Rows.{Is};
+ghost use Rattle.plan_tables.specs.Layout.{taskWidth};
 ghost use Rattle.read_fill.specs.Fill as fills;
 
 // Writes x at k where the test holds, if there is such a place.
@@ -31,7 +36,7 @@ fn put_vcpu(t: Tally, s: Said, d: &mut [u64])
     ensures { λ r. ⌜ now (d .exit) ≡ fills.vcpuPut t s (now (d .entry)) ⌝ }
 {
     let on = read_tally::mark_in(s) == 5;
-    let k = plan_tables::place(t.vcpus, 5);
+    let k = plan_tables::place(t.vcpus, VCPU_WIDTH);
     put_two(on, d, k, s.a, s.b);
     put_two(on, d, k + 2, s.c, s.d);
     put(on, d, k + 4, s.e);
@@ -42,7 +47,7 @@ fn put_mutex(t: Tally, s: Said, d: &mut [u64])
     ensures { λ r. ⌜ now (d .exit) ≡ fills.mutexPut t s (now (d .entry)) ⌝ }
 {
     let on = read_tally::mark_in(s) == 6;
-    put_two(on, d, plan_tables::place(t.mutexes, 2), s.a, s.b);
+    put_two(on, d, plan_tables::place(t.mutexes, MUTEX_WIDTH), s.a, s.b);
 }
 
 // What a line writes of opens.
@@ -50,12 +55,12 @@ fn put_open(t: Tally, s: Said, d: &mut [u64])
     ensures { λ r. ⌜ now (d .exit) ≡ fills.openPut t s (now (d .entry)) ⌝ }
 {
     let on = read_tally::mark_in(s) == 7;
-    put_two(on, d, plan_tables::place(t.opens, 2), s.a, s.b);
+    put_two(on, d, plan_tables::place(t.opens, OPEN_WIDTH), s.a, s.b);
 }
 
 // Writes n zeros from k on.
 fn wipe(d: &mut [u64], k: usize, n: usize)
-    requires { ⌜ (k ≤ 4000) × (n ≤ 29) ⌝ }
+    requires { ⌜ (k ≤ 4000) × (n ≤ taskWidth) ⌝ }
     ensures { λ r. ⌜ now (d .exit) ≡ fills.wiped (now (d .entry)) k n ⌝ }
 {
     let mut i = 0;
@@ -67,9 +72,9 @@ fn wipe(d: &mut [u64], k: usize, n: usize)
 
 // The numbers in a task's row where the test holds.
 fn width_if(on: bool) -> usize
-    ensures { λ r. ⌜ Is r (fills.widthIf on) 29 ⌝ }
+    ensures { λ r. ⌜ Is r (fills.widthIf on) taskWidth ⌝ }
 {
-    if on { 29 } else { 0 }
+    if on { TASK_WIDTH } else { 0 }
 }
 
 // The row of the last task.
@@ -78,9 +83,9 @@ fn last_row(t: Tally) -> usize
 {
     let n = t.tasks;
     if n == 0 {
-        plan_tables::place(0, 29)
+        plan_tables::place(0, TASK_WIDTH)
     } else {
-        plan_tables::place(n - 1, 29)
+        plan_tables::place(n - 1, TASK_WIDTH)
     }
 }
 
@@ -89,7 +94,7 @@ fn put_task(t: Tally, s: Said, d: &mut [u64])
     ensures { λ r. ⌜ now (d .exit) ≡ fills.taskLinePut t s (now (d .entry)) ⌝ }
 {
     let on = read_tally::mark_in(s) == 8;
-    let k = plan_tables::place(t.tasks, 29);
+    let k = plan_tables::place(t.tasks, TASK_WIDTH);
     wipe(d, k, width_if(on));
     put_two(on, d, k, s.a, s.b);
     put(on, d, k + 2, s.c);

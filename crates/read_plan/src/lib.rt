@@ -3,6 +3,7 @@ use read_answer::PlanAnswer;
 ghost use mathlib.Core.Path.{_≡_};
 ghost use Rattle.laws.specs.Bytes.{pieces};
 ghost use Rattle.plan.specs.Limits.{lf};
+ghost use Rattle.plan_tables.specs.Layout.{lent};
 ghost use Rattle.judge_coded.specs.Coded as coded;
 ghost use Rattle.read_tally.specs.Tally as tallies;
 ghost use Rattle.read_fill.specs.Fill as fills;
@@ -40,11 +41,11 @@ pub fn read_plan(
     ot: &mut [u64],
     kt: &mut [u64],
 ) -> PlanAnswer
-    ensures { λ r. ⌜ r ≡ planAnswer (now (src .entry)) (judged.lent (now (vt .entry)) (now (mt .entry)) (now (ot .entry)) (now (kt .entry))) ⌝ }
-    ensures { λ r. ⌜ now (vt .exit) ≡ tablesAfter (now (src .entry)) (judged.lent (now (vt .entry)) (now (mt .entry)) (now (ot .entry)) (now (kt .entry))) .vcpus ⌝ }
-    ensures { λ r. ⌜ now (mt .exit) ≡ tablesAfter (now (src .entry)) (judged.lent (now (vt .entry)) (now (mt .entry)) (now (ot .entry)) (now (kt .entry))) .mutexes ⌝ }
-    ensures { λ r. ⌜ now (ot .exit) ≡ tablesAfter (now (src .entry)) (judged.lent (now (vt .entry)) (now (mt .entry)) (now (ot .entry)) (now (kt .entry))) .opens ⌝ }
-    ensures { λ r. ⌜ now (kt .exit) ≡ tablesAfter (now (src .entry)) (judged.lent (now (vt .entry)) (now (mt .entry)) (now (ot .entry)) (now (kt .entry))) .tasks ⌝ }
+    ensures { λ r. ⌜ r ≡ planAnswer (now (src .entry)) (lent (now (vt .entry)) (now (mt .entry)) (now (ot .entry)) (now (kt .entry))) ⌝ }
+    ensures { λ r. ⌜ now (vt .exit) ≡ tablesAfter (now (src .entry)) (lent (now (vt .entry)) (now (mt .entry)) (now (ot .entry)) (now (kt .entry))) .vcpus ⌝ }
+    ensures { λ r. ⌜ now (mt .exit) ≡ tablesAfter (now (src .entry)) (lent (now (vt .entry)) (now (mt .entry)) (now (ot .entry)) (now (kt .entry))) .mutexes ⌝ }
+    ensures { λ r. ⌜ now (ot .exit) ≡ tablesAfter (now (src .entry)) (lent (now (vt .entry)) (now (mt .entry)) (now (ot .entry)) (now (kt .entry))) .opens ⌝ }
+    ensures { λ r. ⌜ now (kt .exit) ≡ tablesAfter (now (src .entry)) (lent (now (vt .entry)) (now (mt .entry)) (now (ot .entry)) (now (kt .entry))) .tasks ⌝ }
 {
     let a = judge_lines(src);
     let b = read_answer::with_room(a, vt.len(), mt.len(), ot.len(), kt.len());

@@ -19,7 +19,8 @@ use Rattle.plan.specs.declared.Policy.{Policy}
 use Rattle.plan.specs.declared.Policy.the-variants.{Periodic, Deferrable}
 use Rattle.plan.specs.declared.OverrunChoice.{OverrunChoice}
 use Rattle.plan.specs.declared.OverrunChoice.the-variants.{WithOverrun, WithoutOverrun}
-use Rattle.plan.specs.Plan.{Vcpu, Owner, Global, Local, Mutex, Open, Lock, Task, Section, Plan, tasksOf}
+use Rattle.plan.specs.declared.Lock.{Lock}
+use Rattle.plan.specs.Plan.{Vcpu, Owner, Global, Local, Mutex, Open, Task, Section, Plan, tasksOf}
 use Rattle.plan.specs.Text.{item, policyKind, vcpuItem, ownedItem, openItem, runItem, vcpuItems, mutexItems, openItems, lockItems, taskItems, sectionItems, itemsOf, linesOf, textOf}
 use Rattle.plan.specs.Rules.{Known}
 use Rattle.plan.specs.Reading.{Passes, rules}

@@ -1,7 +1,7 @@
 -- What every function over records shares: a local of numbers is made, lent to `load` beside the records, and lent again to be read.
 -- Assumes nothing.
 use Rattle.records.proofs.Kit.{refl, _≡_, ℕ, arith, [], _∷_, List, length, URA, fullShare, named, Val, SProp, ent, emp, exE, snd∗, GName, Lft, Share, Fml, ftrue, fsep, flft, Memory, Routine, Heap, Atoms, sem, Fun, fact, Given, ‵, _⊛_, ⋆, _$_, _∵_, !, qed, frame, done, join, u64, sliceVal, MutSlice, ShrSlice, nothing, Contract, ensured, lasts, tripleOf, says, RefT, vint, w64, usize, Is, owned, uint-makes, lit<, fsplit, fjoin, move, drop}
-use Rattle.plan_tables.specs.Layout.{Tables}
+use Rattle.plan_tables.specs.Layout.{Tables, lent}
 use Rattle.records.specs.Sheet.{Task, noRows}
 use Rattle.records.proofs.Lent.{none-long}
 use Rattle.records.proofs.Task as T
@@ -24,7 +24,7 @@ Shr α l γ ys = ShrSlice (named 1) α u64 .own (x l γ ys) (s l ys ∷ [])
 
 -- the tables with these numbers for the tasks
 abbrev pub with′ : RefT (List ℕ) → RefT (List ℕ) → RefT (List ℕ) → List ℕ → Tables
-with′ vt mt ot u = record { vcpus = vt .now; mutexes = mt .now; opens = ot .now; tasks = u }
+with′ vt mt ot u = lent (vt .now) (mt .now) (ot .now) u
 
 -- the records
 abbrev pub tasks-val : RefT (List Task) → Val

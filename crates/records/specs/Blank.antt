@@ -8,17 +8,13 @@ use lib.Seq.{take-at}
 use Rattle.laws.specs.Sums.{flat}
 use Rattle.laws.specs.Rows.{rows}
 use Rattle.laws.specs.RowLaws.{rows-length}
-use Rattle.plan.specs.Limits.{maxLocks, maxTasks}
+use Rattle.plan.specs.Limits.{mostTasks}
 use Rattle.plan_tables.specs.Layout.{taskWidth, over}
 use Rattle.plan_tables.specs.FlatLaws.{over-rows}
-use Rattle.records.specs.Sheet.{Task, noLock, taskNums, sheetRows, cutTo, taskOf, saved}
+use Rattle.records.specs.Sheet.{Task, blankTask, taskNums, sheetRows, cutTo, taskOf, saved}
 use Rattle.records.specs.SaveLaws.{nums-back}
 
--- a blank record
-abbrev pub blankTask : Task
-blankTask = record { v = 0; n = 0; period = 0; first = 0; count = 0; locks = replicate maxLocks noLock }
-
--- eight of them
+-- eight records at a time
 abbrev pub atATime : ℕ
 atATime = 8
 
@@ -30,10 +26,10 @@ unfolding noTasks
 none-many = length-replicate {A = Task} atATime blankTask
 
 -- kept as records and copied back, the first n rows of numbers are as they were
-pub kept-rows : (t : List ℕ) (n : ℕ) → n ≤ atATime → n * taskWidth ≤ length t → over (sheetRows (cutTo (min n maxTasks) (saved noTasks t n))) t ≡ t
+pub kept-rows : (t : List ℕ) (n : ℕ) → n ≤ atATime → n * taskWidth ≤ length t → over (sheetRows (cutTo (min n mostTasks) (saved noTasks t n))) t ≡ t
 unfolding cutTo saved sheetRows
 kept-rows t n l room =
     let ks : List Task = rows n (taskOf t) in
     let many : length ks ≡ n = rows-length n (taskOf t) in
-    ap (λ u. over (flat taskNums u) t) (take-at ks (drop n noTasks) (min n maxTasks) (omega arith))
+    ap (λ u. over (flat taskNums u) t) (take-at ks (drop n noTasks) (min n mostTasks) (omega arith))
     ∙ over-rows taskNums taskWidth n (taskOf t) t (λ i h. nums-back t i) (omega arith)

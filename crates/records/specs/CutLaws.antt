@@ -1,4 +1,4 @@
--- No more records matter than a plan has at most: the test for 9, the plan in the tables, and all that is told of them.
+-- No more records matter than there are places for, since no plan has more tasks: the test for 9, the plan in the tables, and all that is told of them.
 use Prim.Native.Nat.{ℕ, _+_, _*_, _≤_}
 use mathlib.Core.Path.{_≡_, refl, ap, sym, _∙_}
 use mathlib.Core.List.{List, _++_, append-assoc}
@@ -11,14 +11,14 @@ use lib.Seq.{take-all, take-at, drop-append-le, length-take-le}
 use Rattle.laws.specs.Sums.{flat}
 use Rattle.laws.specs.SumLaws.{each-map, flat-append}
 use Rattle.laws.specs.BoolLaws.{both-ways}
-use Rattle.plan.specs.Limits.{maxTasks}
+use Rattle.plan.specs.Limits.{maxTasks, mostTasks}
 use Rattle.plan.specs.Plan.{Plan, tasksOf}
 use Rattle.plan.specs.Valid.{Valid}
 use Rattle.plan_tables.specs.declared.PlanRecord.{PlanRecord}
-use Rattle.plan_tables.specs.Layout.{Tables, taskWidth, taskCells, over, filled}
+use Rattle.plan_tables.specs.Layout.{Tables, lent, taskWidth, taskCells, over, filled}
 use Rattle.plan_tables.specs.FlatLaws.{flat-length}
 use Rattle.plan_tables.specs.LayoutLaws.{task-wide}
-use Rattle.plan_tables.specs.Given.{Gives, planIn, isGiven}
+use Rattle.plan_tables.specs.Given.{Gives, planIn, isGiven, ifGiven}
 use Rattle.plan_tables.specs.GivenLaws.{gives-kept, valid-few, given-plan, given-exactly, plan-given}
 use Rattle.plan_tables.specs.Sound.{given-sound}
 use Rattle.records.specs.Sheet.{Task, taskNums, sheetRows, cutTo, tablesOf}
@@ -27,7 +27,7 @@ use Rattle.records.specs.SheetLaws.{sheet-long}
 -- TWO TABLES OF TASKS, one with more at its end
 module _ (vt mt ot f g : List ℕ) where
   abbrev at : List ℕ → Tables
-  at u = record { vcpus = vt; mutexes = mt; opens = ot; tasks = u }
+  at u = lent vt mt ot u
 
   abbrev cells : Plan → List ℕ
   cells p = flat taskCells (tasksOf (p .sections))
@@ -72,7 +72,7 @@ module _ (vt mt ot f g : List ℕ) where
       given-exactly r (at (f ++ g)) .1
       (planIn r (at f), h .0, gives-other (planIn r (at f)) r f (f ++ g) (h .1) (ap (λ u. u ++ g) (k .tasks .front) ∙ sym (over-more c (omega arith))))
 
-  module _ (long : maxTasks * taskWidth ≤ length f) where
+  module _ (long : mostTasks * taskWidth ≤ length f) where
     less : (r : PlanRecord) → isGiven r (at (f ++ g)) ≡ true → Gives (planIn r (at (f ++ g))) r (at f)
     less r e =
         let h = given-plan r (at (f ++ g)) e in
@@ -97,45 +97,45 @@ module _ (vt mt ot : List ℕ) (ks : List Task) where
   whole = tablesOf vt mt ot ks
 
   abbrev cut : Tables
-  cut = tablesOf vt mt ot (cutTo maxTasks ks)
+  cut = tablesOf vt mt ot (cutTo mostTasks ks)
 
   -- their numbers up to the cut, and after it
   abbrev f : List ℕ
-  f = flat taskNums (take maxTasks ks)
+  f = flat taskNums (take mostTasks ks)
 
   abbrev g : List ℕ
-  g = flat taskNums (drop maxTasks ks)
+  g = flat taskNums (drop mostTasks ks)
 
   apart : flat taskNums ks ≡ f ++ g
-  apart = ap (flat taskNums) (sym (take-append-drop maxTasks ks)) ∙ flat-append taskNums (take maxTasks ks) (drop maxTasks ks)
+  apart = ap (flat taskNums) (sym (take-append-drop mostTasks ks)) ∙ flat-append taskNums (take mostTasks ks) (drop mostTasks ks)
 
   module _ {B : Type 0} (F : Plan → B) (z : B) (r : PlanRecord) where
-    -- what is told of the plan in the tables, z where there is none
+    -- what is asked of the plan in the tables, z where there is none
+    abbrev told : Tables → B
+    told t = ifGiven r t F z
+
     abbrev tell : Bool → Plan → B
     tell b p = elim b [ true ↦ F p | false ↦ z ]
-
-    abbrev told : Tables → B
-    told t = tell (isGiven r t) (planIn r t)
 
     tell-same : (a b : Bool) (p q : Plan) → a ≡ b → (b ≡ true → p ≡ q) → tell a p ≡ tell b q
     tell-same a true p q e h = ap (λ c. tell c p) e ∙ ap F (h refl)
     tell-same a false p q e h = ap (λ c. tell c p) e
 
-    step : maxTasks * taskWidth ≤ length f → told (at vt mt ot f g f) ≡ told (at vt mt ot f g (f ++ g))
+    step : mostTasks * taskWidth ≤ length f → told (at vt mt ot f g f) ≡ told (at vt mt ot f g (f ++ g))
     step l =
         tell-same (isGiven r (at vt mt ot f g f)) (isGiven r (at vt mt ot f g (f ++ g))) (planIn r (at vt mt ot f g f)) (planIn r (at vt mt ot f g (f ++ g)))
         (same-test vt mt ot f g l r) (same-plan vt mt ot f g l r)
 
-    go : (b : Bool) → ltb maxTasks (length ks) ≡ b → told cut ≡ told whole
+    go : (b : Bool) → ltb mostTasks (length ks) ≡ b → told cut ≡ told whole
     unfolding cutTo sheetRows
     go true e =
-        let l = ltb-true maxTasks (length ks) e in
-        let n : length f ≡ length (take maxTasks ks) * taskWidth = sheet-long (take maxTasks ks) in
-        step (omega (arith, length-take-le maxTasks ks (omega arith))) ∙ ap (λ u. told (at vt mt ot f g u)) (sym apart)
-    go false e = ap (λ l. told (tablesOf vt mt ot l)) (take-all maxTasks ks (ltb-false maxTasks (length ks) e))
+        let l = ltb-true mostTasks (length ks) e in
+        let n : length f ≡ length (take mostTasks ks) * taskWidth = sheet-long (take mostTasks ks) in
+        step (omega (arith, length-take-le mostTasks ks (omega arith))) ∙ ap (λ u. told (at vt mt ot f g u)) (sym apart)
+    go false e = ap (λ l. told (tablesOf vt mt ot l)) (take-all mostTasks ks (ltb-false mostTasks (length ks) e))
 
     pub cut-told : told cut ≡ told whole
-    cut-told = go (ltb maxTasks (length ks)) refl
+    cut-told = go (ltb mostTasks (length ks)) refl
 
   pub cut-given : (r : PlanRecord) → isGiven r cut ≡ isGiven r whole
   cut-given r = same (isGiven r cut) ∙ cut-told (λ p. true) false r ∙ sym (same (isGiven r whole))

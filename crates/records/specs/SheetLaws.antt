@@ -14,10 +14,12 @@ use Rattle.laws.specs.Sums.{flat}
 use Rattle.laws.specs.Rows.{rows}
 use Rattle.laws.specs.RowLaws.{rows-length}
 use Rattle.laws.specs.SumLaws.{flat-append}
-use Rattle.plan.specs.Limits.{maxLocks, maxTasks}
-use Rattle.plan_tables.specs.Layout.{taskWidth, lockWidth, over}
+use Rattle.plan.specs.Limits.{maxLocks, mostTasks}
+use Rattle.plan.specs.declared.Lock.{Lock}
+use Rattle.plan.specs.Plan.{noLock}
+use Rattle.plan_tables.specs.Layout.{taskWidth, lockWidth, lockCells, over}
 use Rattle.plan_tables.specs.FlatLaws.{flat-length, each-of}
-use Rattle.records.specs.Sheet.{Lock, Task, noLock, noTask, lockNums, locksTo, taskNums, sheetRows, cutTo, noRows}
+use Rattle.records.specs.Sheet.{Task, blankTask, locksTo, taskNums, sheetRows, cutTo, noRows}
 
 -- WRITING
 
@@ -31,11 +33,11 @@ pub locks-long : (k : Task) (j : ℕ) → length (locksTo k j) ≡ j * lockWidth
 unfolding locksTo
 locks-long k j =
     let xs : List Lock = rows j (λ i. getD (k .locks) i noLock) in
-    flat-length lockNums lockWidth xs (each-of xs (λ x. refl)) ∙ ap (λ n. n * lockWidth) (rows-length j (λ i. getD (k .locks) i noLock))
+    flat-length lockCells lockWidth xs (each-of xs (λ x. refl)) ∙ ap (λ n. n * lockWidth) (rows-length j (λ i. getD (k .locks) i noLock))
 
-pub locks-more : (k : Task) (j : ℕ) → locksTo k (suc j) ≡ locksTo k j ++ lockNums (getD (k .locks) j noLock)
+pub locks-more : (k : Task) (j : ℕ) → locksTo k (suc j) ≡ locksTo k j ++ lockCells (getD (k .locks) j noLock)
 unfolding locksTo rows flat
-locks-more k j = flat-append lockNums (rows j (λ i. getD (k .locks) i noLock)) (getD (k .locks) j noLock ∷ [])
+locks-more k j = flat-append lockCells (rows j (λ i. getD (k .locks) i noLock)) (getD (k .locks) j noLock ∷ [])
 
 pub nums-long : (k : Task) → length (taskNums k) ≡ taskWidth
 unfolding taskNums
@@ -43,12 +45,12 @@ nums-long k = omega (arith, locks-long k maxLocks)
 
 -- one lock more is written, and all
 pub lock-more :
-    (k : Task) (d₀ d e : List ℕ) (c j : ℕ) → d ≡ sets d₀ c (locksTo k j) → e ≡ sets d (c + j * lockWidth) (lockNums (getD (k .locks) j noLock)) →
+    (k : Task) (d₀ d e : List ℕ) (c j : ℕ) → d ≡ sets d₀ c (locksTo k j) → e ≡ sets d (c + j * lockWidth) (lockCells (getD (k .locks) j noLock)) →
     e ≡ sets d₀ c (locksTo k (j + 1))
 lock-more k d₀ d e c j h g =
     let p : c + j * lockWidth ≡ c + length (locksTo k j) = omega (arith, locks-long k j) in
-    rw add-one (g ∙ ap (λ u. sets u (c + j * lockWidth) (lockNums (getD (k .locks) j noLock))) h
-    ∙ rw p (sym (sets-append (locksTo k j) (lockNums (getD (k .locks) j noLock)) d₀ c)) ∙ ap (sets d₀ c) (sym (locks-more k j)))
+    rw add-one (g ∙ ap (λ u. sets u (c + j * lockWidth) (lockCells (getD (k .locks) j noLock))) h
+    ∙ rw p (sym (sets-append (locksTo k j) (lockCells (getD (k .locks) j noLock)) d₀ c)) ∙ ap (sets d₀ c) (sym (locks-more k j)))
 
 pub locks-all :
     (k : Task) (d₀ d e : List ℕ) (c j : ℕ) → d ≡ sets d₀ c (k .v ∷ k .n ∷ k .period ∷ k .first ∷ k .count ∷ []) → e ≡ sets d (c + 5) (locksTo k j) →
@@ -95,17 +97,17 @@ over-long u t h = omega (arith, length-append u (drop (length u) t), length-drop
 -- one record more is written
 pub cut-more :
     (ks : List Task) (t : List ℕ) (i : ℕ) → i < length ks → i * taskWidth + taskWidth ≤ length t →
-    sets (over (sheetRows (cutTo i ks)) t) (i * taskWidth) (taskNums (getD ks i noTask)) ≡ over (sheetRows (cutTo (i + 1) ks)) t
+    sets (over (sheetRows (cutTo i ks)) t) (i * taskWidth) (taskNums (getD ks i blankTask)) ≡ over (sheetRows (cutTo (i + 1) ks)) t
 unfolding cutTo sheetRows flat
 cut-more ks t i l h =
     let p : List ℕ = flat taskNums (take i ks) in
     let q : List ℕ = drop (length p) t in
-    let vs : List ℕ = taskNums (getD ks i noTask) in
-    let lv : length vs ≡ taskWidth = nums-long (getD ks i noTask) in
+    let vs : List ℕ = taskNums (getD ks i blankTask) in
+    let lv : length vs ≡ taskWidth = nums-long (getD ks i blankTask) in
     let lp : length p ≡ i * taskWidth = flat-length taskNums taskWidth (take i ks) (each-of (take i ks) nums-long) ∙ ap (λ m. m * taskWidth) (length-take-le i ks (omega arith)) in
     let lq : length (p ++ q) ≡ length t = over-long p t (omega arith) in
     let grown : flat taskNums (take (i + 1) ks) ≡ p ++ vs =
-    rw add-one (ap (flat taskNums) (take-suc ks i noTask l) ∙ flat-append taskNums (take i ks) (getD ks i noTask ∷ []) ∙ ap (λ u. p ++ u) (append-nil vs)) in
+    rw add-one (ap (flat taskNums) (take-suc ks i blankTask l) ∙ flat-append taskNums (take i ks) (getD ks i blankTask ∷ []) ∙ ap (λ u. p ++ u) (append-nil vs)) in
     let en : i * taskWidth + length vs ≡ length p + taskWidth = omega arith in
     let em : length p + taskWidth ≡ length (p ++ vs) = omega (arith, length-append p vs) in
     sets-eq vs (p ++ q) (i * taskWidth) (omega arith)
@@ -114,17 +116,17 @@ cut-more ks t i l h =
     ∙ ap (λ n. (p ++ vs) ++ drop n t) em
     ∙ ap (λ u. over u t) (sym grown)
 
-pub rows-long : length noRows ≡ maxTasks * taskWidth
+pub rows-long : length noRows ≡ mostTasks * taskWidth
 unfolding noRows
-rows-long = length-replicate {A = ℕ} (maxTasks * taskWidth) 0
+rows-long = length-replicate {A = ℕ} (mostTasks * taskWidth) 0
 
 -- THE ROWS THAT ARE LOADED
 
-pub loaded-few : (ks : List Task) → length (sheetRows (cutTo maxTasks ks)) ≤ maxTasks * taskWidth
-loaded-few ks = let k = cut-long maxTasks ks in omega arith
+pub loaded-few : (ks : List Task) → length (sheetRows (cutTo mostTasks ks)) ≤ mostTasks * taskWidth
+loaded-few ks = let k = cut-long mostTasks ks in omega arith
 
-pub loaded-long : (ks : List Task) → length (over (sheetRows (cutTo maxTasks ks)) noRows) ≡ maxTasks * taskWidth
-loaded-long ks = over-long (sheetRows (cutTo maxTasks ks)) noRows (omega (arith, loaded-few ks, rows-long)) ∙ rows-long
+pub loaded-long : (ks : List Task) → length (over (sheetRows (cutTo mostTasks ks)) noRows) ≡ mostTasks * taskWidth
+loaded-long ks = over-long (sheetRows (cutTo mostTasks ks)) noRows (omega (arith, loaded-few ks, rows-long)) ∙ rows-long
 
-pub loaded-front : (ks : List Task) → take (length (sheetRows (cutTo maxTasks ks))) (over (sheetRows (cutTo maxTasks ks)) noRows) ≡ sheetRows (cutTo maxTasks ks)
-loaded-front ks = take-append-seam (sheetRows (cutTo maxTasks ks)) _
+pub loaded-front : (ks : List Task) → take (length (sheetRows (cutTo mostTasks ks))) (over (sheetRows (cutTo mostTasks ks)) noRows) ≡ sheetRows (cutTo mostTasks ks)
+loaded-front ks = take-append-seam (sheetRows (cutTo mostTasks ks)) _

@@ -1,19 +1,21 @@
 // The tables with tasks as a lent slice of records: thin functions copy the records out and in, one after the other, and the covered functions over numbers do the work. What a record's numbers are stands in specs/Sheet.
+use plan::Lock;
+use plan::MOST_TASKS;
+use plan_tables::FIRST_LOCK;
+use plan_tables::LOCK_WIDTH;
+use plan_tables::TASK_WIDTH;
 ghost use mathlib.Core.Path.{_≡_};
 ghost use mathlib.Core.List.{[], _∷_};
 ghost use Prim.Native.Nat.{_+_, _*_, _<_, _≤_, min};
 ghost use lib.ListN.{length, getD};
 ghost use lib.Seq.{sets};
-ghost use Rattle.plan_tables.specs.Layout.{over};
+ghost use Rattle.plan.specs.Limits.{mostTasks};
+ghost use Rattle.plan_tables.specs.Layout.{taskWidth, over, lockRow};
 ghost use Rattle.records.specs.Blank.{noTasks};
-ghost use Rattle.records.specs.Sheet.{noTask, taskNums, sheetRows, cutTo, noRows, lockOf, taskOf, saved};
+ghost use Rattle.records.specs.Sheet.{blankTask, taskNums, sheetRows, cutTo, noRows, taskOf, saved};
 
-// A lock of a task: its mutex, the ticks under it, the run after it.
-pub struct Lock {
-    pub m: u64,
-    pub t: u64,
-    pub run: u64,
-}
+// The numbers of as many records as there are places for.
+const ROWS: usize = MOST_TASKS * TASK_WIDTH;
 
 // A task: its VCPU, its number, its period, its first run, how many locks it has, and its locks.
 pub struct Task {
@@ -25,23 +27,23 @@ pub struct Task {
     pub locks: [Lock; 8],
 }
 
-// Room for the numbers of 64 records, all 0.
-pub fn no_rows() -> [u64; 1856]
+// Room for the numbers of as many records as there are places for, all 0.
+pub fn no_rows() -> [u64; ROWS]
     ensures { λ r. ⌜ r ≡ noRows ⌝ }
 {
-    [0u64; 1856]
+    [0u64; ROWS]
 }
 
-// The least of n and 64.
+// The least of n and the places that there are.
 pub fn few(n: usize) -> usize
-    ensures { λ r. ⌜ r ≡ min n 64 ⌝ }
+    ensures { λ r. ⌜ r ≡ min n mostTasks ⌝ }
 {
-    if n < 64 { n } else { 64 }
+    if n < MOST_TASKS { n } else { MOST_TASKS }
 }
 
-// The least of a, n and 64.
+// The least of a, n and the places that there are.
 fn few_of(a: usize, n: usize) -> usize
-    ensures { λ r. ⌜ r ≡ min a (min n 64) ⌝ }
+    ensures { λ r. ⌜ r ≡ min a (min n mostTasks) ⌝ }
 {
     let k = few(n);
     if a < k { a } else { k }
@@ -49,10 +51,10 @@ fn few_of(a: usize, n: usize) -> usize
 
 // How many numbers n records have.
 pub fn width(n: usize) -> usize
-    requires { ⌜ n ≤ 64 ⌝ }
-    ensures { λ r. ⌜ r ≡ n * 29 ⌝ }
+    requires { ⌜ n ≤ mostTasks ⌝ }
+    ensures { λ r. ⌜ r ≡ n * taskWidth ⌝ }
 {
-    n * 29
+    n * TASK_WIDTH
 }
 
 // Writes three numbers from k on.
@@ -79,15 +81,15 @@ fn put_five(d: &mut [u64], k: usize, a: u64, b: u64, c: u64, e: u64, f: u64)
 
 // Writes the numbers of a record as row i.
 fn put_row(d: &mut [u64], i: usize, t: Task)
-    requires { ⌜ (i < 64) × (i * 29 + 29 ≤ length (now d)) ⌝ }
-    ensures { λ r. ⌜ now (d .exit) ≡ sets (now (d .entry)) (i * 29) (taskNums t) ⌝ }
+    requires { ⌜ (i < mostTasks) × (i * taskWidth + taskWidth ≤ length (now d)) ⌝ }
+    ensures { λ r. ⌜ now (d .exit) ≡ sets (now (d .entry)) (i * taskWidth) (taskNums t) ⌝ }
 {
-    let k = i * 29;
+    let k = i * TASK_WIDTH;
     put_five(d, k, t.v, t.n, t.period, t.first, t.count);
     let mut j = 0;
     while j < 8 {
         let l = t.locks[j];
-        put_three(d, k + 5 + j * 3, l.m, l.t, l.run);
+        put_three(d, k + FIRST_LOCK + j * LOCK_WIDTH, l.m, l.ticks, l.after);
         j += 1;
     }
 }
@@ -95,15 +97,15 @@ fn put_row(d: &mut [u64], i: usize, t: Task)
 // The record at i.
 fn task_at(tasks: &[Task], i: usize) -> Task
     requires { ⌜ i < length (now tasks) ⌝ }
-    ensures { λ r. ⌜ r ≡ getD (now (tasks .entry)) i noTask ⌝ }
+    ensures { λ r. ⌜ r ≡ getD (now (tasks .entry)) i blankTask ⌝ }
 {
     tasks[i]
 }
 
-// Copies the first n records, and no more than 64, into rows of numbers, and returns how many numbers they have.
+// Copies the first n records, and no more than there are places for, into rows of numbers, and returns how many numbers they have.
 pub fn load(tasks: &[Task], rows: &mut [u64], n: usize) -> usize
-    requires { ⌜ min n 64 * 29 ≤ length (now rows) ⌝ }
-    ensures { λ r. ⌜ (r ≡ length (sheetRows (cutTo (min n 64) (now (tasks .entry))))) × (now (rows .exit) ≡ over (sheetRows (cutTo (min n 64) (now (tasks .entry)))) (now (rows .entry))) ⌝ }
+    requires { ⌜ min n mostTasks * taskWidth ≤ length (now rows) ⌝ }
+    ensures { λ r. ⌜ (r ≡ length (sheetRows (cutTo (min n mostTasks) (now (tasks .entry))))) × (now (rows .exit) ≡ over (sheetRows (cutTo (min n mostTasks) (now (tasks .entry)))) (now (rows .entry))) ⌝ }
 {
     let k = few_of(tasks.len(), n);
     let mut i: usize = 0;
@@ -116,20 +118,20 @@ pub fn load(tasks: &[Task], rows: &mut [u64], n: usize) -> usize
 
 // Lock j of row i.
 fn lock_of(rows: &[u64], i: usize, j: usize) -> Lock
-    requires { ⌜ (i < 64) × (j < 8) ⌝ }
-    ensures { λ a. ⌜ a ≡ lockOf (now (rows .entry)) i j ⌝ }
+    requires { ⌜ (i < mostTasks) × (j < 8) ⌝ }
+    ensures { λ a. ⌜ a ≡ lockRow (now (rows .entry)) i j ⌝ }
 {
-    let k = i * 29 + (5 + j * 3);
+    let k = i * TASK_WIDTH + (FIRST_LOCK + j * LOCK_WIDTH);
     Lock {
         m: plan_tables::at(rows, k),
-        t: plan_tables::at(rows, k + 1),
-        run: plan_tables::at(rows, k + 2),
+        ticks: plan_tables::at(rows, k + 1),
+        after: plan_tables::at(rows, k + 2),
     }
 }
 
 // The record of row i.
 fn task_of(rows: &[u64], i: usize) -> Task
-    requires { ⌜ i < 64 ⌝ }
+    requires { ⌜ i < mostTasks ⌝ }
     ensures { λ a. ⌜ a ≡ taskOf (now (rows .entry)) i ⌝ }
 {
     let ls = [
@@ -142,7 +144,7 @@ fn task_of(rows: &[u64], i: usize) -> Task
         lock_of(rows, i, 6),
         lock_of(rows, i, 7),
     ];
-    let k = i * 29;
+    let k = i * TASK_WIDTH;
     Task {
         v: plan_tables::at(rows, k),
         n: plan_tables::at(rows, k + 1),
@@ -155,7 +157,7 @@ fn task_of(rows: &[u64], i: usize) -> Task
 
 // Writes the first n rows of numbers as records.
 pub fn save(tasks: &mut [Task], rows: &[u64], n: usize)
-    requires { ⌜ (n ≤ 64) × (n ≤ length (now tasks)) ⌝ }
+    requires { ⌜ (n ≤ mostTasks) × (n ≤ length (now tasks)) ⌝ }
     ensures { λ a. ⌜ now (tasks .exit) ≡ saved (now (tasks .entry)) (now (rows .entry)) n ⌝ }
 {
     let mut i: usize = 0;
@@ -170,7 +172,11 @@ pub fn save(tasks: &mut [Task], rows: &[u64], n: usize)
 fn no_tasks() -> [Task; 8]
     ensures { λ r. ⌜ r ≡ noTasks ⌝ }
 {
-    let l = Lock { m: 0, t: 0, run: 0 };
+    let l = Lock {
+        m: 0,
+        ticks: 0,
+        after: 0,
+    };
     let ls = [l; 8];
     let t = Task {
         v: 0,
@@ -185,7 +191,7 @@ fn no_tasks() -> [Task; 8]
 
 // Keeps the tasks of the first n rows of numbers as records, in a table of eight, and copies their numbers back: the rows are as they were.
 fn kept(rows: &mut [u64], n: usize)
-    requires { ⌜ (n ≤ 8) × (n * 29 ≤ length (now rows)) ⌝ }
+    requires { ⌜ (n ≤ 8) × (n * taskWidth ≤ length (now rows)) ⌝ }
     ensures { λ r. ⌜ now (rows .exit) ≡ now (rows .entry) ⌝ }
 {
     let mut tasks = no_tasks();
@@ -195,12 +201,12 @@ fn kept(rows: &mut [u64], n: usize)
 
 // The same for n rows, eight at a time, so that little is cleared for a small plan.
 pub fn all_kept(rows: &mut [u64], n: usize)
-    requires { ⌜ (n ≤ 64) × (n * 29 ≤ length (now rows)) ⌝ }
+    requires { ⌜ (n ≤ mostTasks) × (n * taskWidth ≤ length (now rows)) ⌝ }
     ensures { λ r. ⌜ now (rows .exit) ≡ now (rows .entry) ⌝ }
 {
     let mut i: usize = 0;
     while i < n {
-        kept(&mut rows[i * 29..], few_of(8, n - i));
+        kept(&mut rows[i * TASK_WIDTH..], few_of(8, n - i));
         i += 8;
     }
 }

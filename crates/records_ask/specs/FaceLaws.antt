@@ -1,8 +1,8 @@
--- What is told of lent tables is told of the first 64 records.
+-- What is told of lent tables is told of as many records as there are places for.
 use Prim.Native.Nat.{ℕ}
 use mathlib.Core.Path.{_≡_, ap}
 use mathlib.Core.List.{List}
-use Rattle.plan.specs.Limits.{maxTasks}
+use Rattle.plan.specs.Limits.{mostTasks}
 use Rattle.plan.specs.declared.Refusal.the-variants.{Foreign}
 use Rattle.plan_tables.specs.declared.PlanRecord.{PlanRecord}
 use Rattle.plan_tables.specs.Layout.{Tables}
@@ -22,7 +22,7 @@ use Rattle.records.specs.CutLaws.{cut-told, cut-given}
 
 module _ (vt mt ot : List ℕ) (ks : List Task) (r : PlanRecord) where
   abbrev cut : Tables
-  cut = tablesOf vt mt ot (cutTo maxTasks ks)
+  cut = tablesOf vt mt ot (cutTo mostTasks ks)
 
   abbrev whole : Tables
   whole = tablesOf vt mt ot ks

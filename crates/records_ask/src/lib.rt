@@ -3,11 +3,13 @@ use answers_rows::FigureAnswer;
 use answers_rows::RowAnswer;
 use answers_rows::TaskRowAnswer;
 use listing_lines::TextAnswer;
+use plan::MOST_TASKS;
 use plan_tables::PlanRecord;
 use records::Task;
 ghost use mathlib.Core.Path.{_≡_};
 ghost use Prim.Native.Nat.{_≤_};
 ghost use lib.ListN.{length, take};
+ghost use Rattle.plan_tables.specs.Layout.{lent};
 ghost use Rattle.listing_asked.specs.Asked.{listingAsked, listingLeft};
 ghost use Rattle.records.specs.Sheet.{tablesOf};
 ghost use Rattle.records_ask.specs.Replies.{replyTo};
@@ -31,7 +33,7 @@ pub enum Replied {
 
 // The reply, on rows of numbers.
 fn reply_on(r: PlanRecord, vt: &[u64], mt: &[u64], ot: &[u64], ts: &[u64], q: Question) -> Replied
-    ensures { λ a. ⌜ a ≡ replyTo r (record { vcpus = now (vt .entry); mutexes = now (mt .entry); opens = now (ot .entry); tasks = now (ts .entry) }) q ⌝ }
+    ensures { λ a. ⌜ a ≡ replyTo r (lent (now (vt .entry)) (now (mt .entry)) (now (ot .entry)) (now (ts .entry))) q ⌝ }
 {
     match q {
         Question::IsGiven => Replied::Given(given_test::is_given(r, vt, mt, ot, ts)),
@@ -65,7 +67,7 @@ fn reply_in(
     c: usize,
 ) -> Replied
     requires { ⌜ c ≤ length (now rows) ⌝ }
-    ensures { λ a. ⌜ a ≡ replyTo r (record { vcpus = now (vt .entry); mutexes = now (mt .entry); opens = now (ot .entry); tasks = take c (now (rows .entry)) }) q ⌝ }
+    ensures { λ a. ⌜ a ≡ replyTo r (lent (now (vt .entry)) (now (mt .entry)) (now (ot .entry)) (take c (now (rows .entry)))) q ⌝ }
 {
     reply_on(r, vt, mt, ot, &rows[..c], q)
 }
@@ -82,7 +84,7 @@ pub fn reply(
     ensures { λ a. ⌜ a ≡ replyTo r (tablesOf (now (vt .entry)) (now (mt .entry)) (now (ot .entry)) (now (tasks .entry))) q ⌝ }
 {
     let mut rows = records::no_rows();
-    let c = records::load(tasks, &mut rows, 64);
+    let c = records::load(tasks, &mut rows, MOST_TASKS);
     reply_in(r, vt, mt, ot, &rows, q, c)
 }
 
@@ -97,8 +99,8 @@ fn listing_in(
     c: usize,
 ) -> TextAnswer
     requires { ⌜ c ≤ length (now rows) ⌝ }
-    ensures { λ a. ⌜ (a ≡ listingAsked r (record { vcpus = now (vt .entry); mutexes = now (mt .entry); opens = now (ot .entry); tasks = take c (now (rows .entry)) }) (now (out .entry)))
-        × (now (out .exit) ≡ listingLeft r (record { vcpus = now (vt .entry); mutexes = now (mt .entry); opens = now (ot .entry); tasks = take c (now (rows .entry)) }) (now (out .entry))) ⌝ }
+    ensures { λ a. ⌜ (a ≡ listingAsked r (lent (now (vt .entry)) (now (mt .entry)) (now (ot .entry)) (take c (now (rows .entry)))) (now (out .entry)))
+        × (now (out .exit) ≡ listingLeft r (lent (now (vt .entry)) (now (mt .entry)) (now (ot .entry)) (take c (now (rows .entry)))) (now (out .entry))) ⌝ }
 {
     listing_write::write_listing(r, vt, mt, ot, &rows[..c], out)
 }
@@ -116,6 +118,6 @@ pub fn write_listing(
     ensures { λ a. ⌜ now (out .exit) ≡ listingLeft r (tablesOf (now (vt .entry)) (now (mt .entry)) (now (ot .entry)) (now (tasks .entry))) (now (out .entry)) ⌝ }
 {
     let mut rows = records::no_rows();
-    let c = records::load(tasks, &mut rows, 64);
+    let c = records::load(tasks, &mut rows, MOST_TASKS);
     listing_in(r, vt, mt, ot, &rows, out, c)
 }

@@ -1,12 +1,12 @@
 -- Reading a plan into records is reading it into the rows of numbers that they stand for.
-use Prim.Native.Nat.{ℕ, _+_, _*_, _≤_, min}
+use Prim.Native.Nat.{ℕ, _*_, _≤_}
 use mathlib.Core.Path.{_≡_, refl, ap, ap₂, sym, _∙_}
 use mathlib.Core.List.{List, _++_, append-assoc}
 use mathlib.Core.Bool.{Bool, true, false, _&&_}
 use native.Mathlib.Omega.{arith}
 use borrow.Author.Tests.{leb-true, le-leb}
 use lib.Dec.{leb}
-use lib.ListN.{length, take, drop, getD, take-append-drop}
+use lib.ListN.{length, take, drop, take-append-drop}
 use lib.Seq.{length-take-le, drop-at}
 use Rattle.laws.specs.Choice.{if_then_else_}
 use Rattle.laws.specs.Sums.{flat}
@@ -14,7 +14,7 @@ use Rattle.laws.specs.SumLaws.{each-map, flat-append}
 use Rattle.laws.specs.Rows.{rows}
 use Rattle.laws.specs.RowLaws.{rows-length, rows-same}
 use Rattle.laws.specs.BoolLaws.{both-ways}
-use Rattle.plan.specs.Limits.{maxTasks}
+use Rattle.plan.specs.Limits.{maxTasks, mostTasks}
 use Rattle.plan.specs.declared.Refusal.{Refusal}
 use Rattle.plan.specs.declared.Refusal.the-variants.{Room}
 use Rattle.plan.specs.Plan.{Plan, tasksOf}
@@ -22,10 +22,10 @@ use Rattle.plan.specs.Valid.{Valid}
 use Rattle.plan.specs.Reading.{Reading, Accepts, Refuses, reading}
 use Rattle.plan.specs.Accepted.{read-text}
 use Rattle.plan_tables.specs.declared.PlanRecord.{PlanRecord}
-use Rattle.plan_tables.specs.Layout.{Tables, taskWidth, vcpuWidth, mutexWidth, openWidth, taskCells, filled, recordOf}
+use Rattle.plan_tables.specs.Layout.{Tables, lent, taskWidth, vcpuWidth, mutexWidth, openWidth, taskCells, filled, recordOf}
 use Rattle.plan_tables.specs.FlatLaws.{flat-length, over-rows}
 use Rattle.plan_tables.specs.LayoutLaws.{task-wide}
-use Rattle.plan_tables.specs.Given.{roomy, isGiven}
+use Rattle.plan_tables.specs.Given.{roomyBy, roomy, isGiven}
 use Rattle.plan_tables.specs.Sound.{given-sound}
 use Rattle.plan_tables.specs.GivenLaws.{valid-few, roomy-exactly}
 use Rattle.read_answer.specs.declared.PlanAnswer.{PlanAnswer}
@@ -36,7 +36,7 @@ use Rattle.records.specs.declared.Task.{Task}
 use Rattle.records.specs.Sheet.{taskNums, sheetRows, tablesOf, noRows, taskOf, saved}
 use Rattle.records.specs.SheetLaws.{sheet-long, rows-long}
 use Rattle.records.specs.SaveLaws.{saved-none, task-same, nums-back}
-use Rattle.records_read.specs.After.{countOf, sheetsAfter}
+use Rattle.records_read.specs.After.{countOf, sheetsAfter, numsFor, ReadIn, ReadOut}
 
 leb-same : (a b c : ℕ) → (a ≤ b → a ≤ c) → (a ≤ c → a ≤ b) → leb a b ≡ leb a c
 leb-same a b c f g = both-ways (leb a b) (leb a c) (λ e. le-leb a c (f (leb-true a b e))) (λ e. le-leb a b (g (leb-true a c e)))
@@ -62,10 +62,10 @@ count-few s t = by-reading s (λ r. countOf (answerInto r t) ≤ maxTasks) (λ x
     go p h true = few p h
     go p h false = omega arith
 
--- u has room for as many rows as there are records, up to as many as a plan has
-module _ (s vt mt ot : List ℕ) (ks : List Task) (u : List ℕ) (long : length u ≡ min (length ks) maxTasks * taskWidth) where
+-- u has the numbers of as many records as there are, and of no more than there are places for
+module _ (s vt mt ot : List ℕ) (ks : List Task) (u : List ℕ) (long : length u ≡ numsFor (length ks)) where
   abbrev nums : Tables
-  nums = record { vcpus = vt; mutexes = mt; opens = ot; tasks = u }
+  nums = lent vt mt ot u
 
   abbrev recs : Tables
   recs = tablesOf vt mt ot ks
@@ -78,7 +78,7 @@ module _ (s vt mt ot : List ℕ) (ks : List Task) (u : List ℕ) (long : length 
   cells-long p h = flat-length taskCells taskWidth (tasksOf (p .sections)) (each-map (tasksOf (p .sections)) task-wide (valid-few h))
 
   room-same : (p : Plan) → Valid p → roomy (recordOf p) nums ≡ roomy (recordOf p) recs
-  unfolding roomy
+  unfolding roomyBy
   room-same p h =
       let k = few p h in
       let l = sheet-long ks in
@@ -146,31 +146,15 @@ module _ (s vt mt ot : List ℕ) (ks : List Task) (u : List ℕ) (long : length 
       go p h true e = let k = roomy-exactly (recordOf p) recs .0 e in let l = sheet-long ks in omega (arith, k .tasks)
       go p h false e = omega arith
 
--- WHAT THE INNER READER SAYS, with room for n records in numbers t, and what the reader says of records
-abbrev pub ReadIn : List ℕ → List ℕ → List ℕ → List ℕ → List ℕ → ℕ → PlanAnswer → List ℕ → List ℕ → List ℕ → List ℕ → Type 0
-ReadIn s vt mt ot t n a v m o w =
-    (a ≡ planAnswer s (record { vcpus = vt; mutexes = mt; opens = ot; tasks = take (min n 64 * 29) t }))
-    × ((v ≡ tablesAfter s (record { vcpus = vt; mutexes = mt; opens = ot; tasks = take (min n 64 * 29) t }) .vcpus)
-    × ((m ≡ tablesAfter s (record { vcpus = vt; mutexes = mt; opens = ot; tasks = take (min n 64 * 29) t }) .mutexes)
-    × ((o ≡ tablesAfter s (record { vcpus = vt; mutexes = mt; opens = ot; tasks = take (min n 64 * 29) t }) .opens)
-    × (w ≡ tablesAfter s (record { vcpus = vt; mutexes = mt; opens = ot; tasks = take (min n 64 * 29) t }) .tasks ++ drop (min n 64 * 29) t))))
-
-abbrev pub ReadOut : List ℕ → List ℕ → List ℕ → List ℕ → List Task → PlanAnswer → List ℕ → List ℕ → List ℕ → List Task → Type 0
-ReadOut s vt mt ot ks a v m o zs =
-    (a ≡ planAnswer s (tablesOf vt mt ot ks))
-    × ((v ≡ tablesAfter s (tablesOf vt mt ot ks) .vcpus)
-    × ((m ≡ tablesAfter s (tablesOf vt mt ot ks) .mutexes)
-    × ((o ≡ tablesAfter s (tablesOf vt mt ot ks) .opens)
-    × (zs ≡ sheetsAfter s vt mt ot ks))))
-
+-- FROM THE READER INTO NUMBERS TO THE READER INTO RECORDS
 module _ (s vt mt ot : List ℕ) (ks : List Task) (a : PlanAnswer) (v m o w : List ℕ) (h : ReadIn s vt mt ot noRows (length ks) a v m o w) (n : ℕ) (e : n ≡ countOf a) where
   abbrev u : List ℕ
-  u = take (min (length ks) 64 * 29) noRows
+  u = take (numsFor (length ks)) noRows
 
-  u-long : length u ≡ min (length ks) maxTasks * taskWidth
-  u-long = length-take-le (min (length ks) 64 * 29) noRows (omega (arith, rows-long))
+  u-long : length u ≡ numsFor (length ks)
+  u-long = length-take-le (numsFor (length ks)) noRows (omega (arith, rows-long))
 
-  pub read-count : (n ≤ 64) × (n ≤ length ks)
+  pub read-count : (n ≤ mostTasks) × (n ≤ length ks)
   read-count =
       let k : n ≡ countOf (planAnswer s (tablesOf vt mt ot ks)) = e ∙ ap countOf (h .0 ∙ answer-same s vt mt ot ks u u-long) in
       (omega (arith, count-few s (tablesOf vt mt ot ks)), omega (arith, count-room s vt mt ot ks u u-long))
@@ -184,7 +168,7 @@ module _ (s vt mt ot : List ℕ) (ks : List Task) (a : PlanAnswer) (v m o w : Li
         h .1 .1 .0 ∙ mutexes-same s vt mt ot ks u u-long,
         (
           h .1 .1 .1 .0 ∙ opens-same s vt mt ot ks u u-long,
-          z ∙ ap₂ (saved ks) (h .1 .1 .1 .1) (e ∙ ap countOf (h .0)) ∙ sheets-same s vt mt ot ks u u-long (drop (min (length ks) 64 * 29) noRows),
+          z ∙ ap₂ (saved ks) (h .1 .1 .1 .1) (e ∙ ap countOf (h .0)) ∙ sheets-same s vt mt ot ks u u-long (drop (numsFor (length ks)) noRows),
         ),
       ),
     ),
@@ -239,5 +223,5 @@ module _ (s vt mt ot : List ℕ) (ks : List Task) where
       (r : PlanRecord) → planAnswer s into ≡ Accepted r →
       isGiven r (tablesOf (tablesAfter s into .vcpus) (tablesAfter s into .mutexes) (tablesAfter s into .opens) (sheetsAfter s vt mt ot ks)) ≡ true
   sheets-given r e =
-      ap (λ u. isGiven r (record { vcpus = tablesAfter s into .vcpus; mutexes = tablesAfter s into .mutexes; opens = tablesAfter s into .opens; tasks = u })) sheets-rows
+      ap (λ u. isGiven r (lent (tablesAfter s into .vcpus) (tablesAfter s into .mutexes) (tablesAfter s into .opens) u)) sheets-rows
       ∙ accepted-given s into r e

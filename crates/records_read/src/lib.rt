@@ -1,16 +1,16 @@
-// Any bytes into lent tables whose tasks are a slice of records: the plan is read into rows of numbers, and these are copied into the records. What is left in the records stands in specs/After.
+// Any bytes into lent tables whose tasks are a slice of records: the plan is read into rows of numbers, and these are copied into the records. What is answered and left stands in specs/After.
 use read_answer::PlanAnswer;
 use records::Task;
 ghost use mathlib.Core.Path.{_≡_};
-ghost use mathlib.Core.List.{_++_};
-ghost use Prim.Native.Nat.{_+_, _*_, _≤_, min};
-ghost use lib.ListN.{length, take, drop};
-ghost use Rattle.read_answer.specs.Into.{planAnswer, tablesAfter};
+ghost use Prim.Native.Nat.{_*_, _≤_};
+ghost use lib.ListN.{length};
+ghost use Rattle.plan.specs.Limits.{mostTasks};
+ghost use Rattle.plan_tables.specs.Layout.{lent, taskWidth};
+ghost use Rattle.read_answer.specs.Into.{planAnswer};
 ghost use Rattle.read_fill.specs.Fill.{vcpuPut, mutexPut, openPut, taskPut};
 ghost use Rattle.read_answer.specs.Judged.{linesLeft};
 ghost use Rattle.read_answer.specs.Ample.{Ample};
-ghost use Rattle.records.specs.Sheet.{tablesOf};
-ghost use Rattle.records_read.specs.After.{countOf, sheetsAfter};
+ghost use Rattle.records_read.specs.After.{countOf, ReadIn, ReadOut};
 
 // How many records an answer writes.
 fn count_of(a: PlanAnswer) -> usize
@@ -22,7 +22,7 @@ fn count_of(a: PlanAnswer) -> usize
     }
 }
 
-// Reads bytes offered as a plan, with room for n records, and no more than 64.
+// Reads bytes offered as a plan, with room for n records, and no more than there are places for.
 fn read_in(
     src: &[u8],
     vt: &mut [u64],
@@ -31,12 +31,8 @@ fn read_in(
     rows: &mut [u64],
     n: usize,
 ) -> PlanAnswer
-    requires { ⌜ 1856 ≤ length (now rows) ⌝ }
-    ensures { λ a. ⌜ (a ≡ planAnswer (now (src .entry)) (record { vcpus = now (vt .entry); mutexes = now (mt .entry); opens = now (ot .entry); tasks = take (min n 64 * 29) (now (rows .entry)) }))
-        × ((now (vt .exit) ≡ tablesAfter (now (src .entry)) (record { vcpus = now (vt .entry); mutexes = now (mt .entry); opens = now (ot .entry); tasks = take (min n 64 * 29) (now (rows .entry)) }) .vcpus)
-        × ((now (mt .exit) ≡ tablesAfter (now (src .entry)) (record { vcpus = now (vt .entry); mutexes = now (mt .entry); opens = now (ot .entry); tasks = take (min n 64 * 29) (now (rows .entry)) }) .mutexes)
-        × ((now (ot .exit) ≡ tablesAfter (now (src .entry)) (record { vcpus = now (vt .entry); mutexes = now (mt .entry); opens = now (ot .entry); tasks = take (min n 64 * 29) (now (rows .entry)) }) .opens)
-        × (now (rows .exit) ≡ tablesAfter (now (src .entry)) (record { vcpus = now (vt .entry); mutexes = now (mt .entry); opens = now (ot .entry); tasks = take (min n 64 * 29) (now (rows .entry)) }) .tasks ++ drop (min n 64 * 29) (now (rows .entry)))))) ⌝ }
+    requires { ⌜ mostTasks * taskWidth ≤ length (now rows) ⌝ }
+    ensures { λ a. ⌜ ReadIn (now (src .entry)) (now (vt .entry)) (now (mt .entry)) (now (ot .entry)) (now (rows .entry)) n a (now (vt .exit)) (now (mt .exit)) (now (ot .exit)) (now (rows .exit)) ⌝ }
 {
     let k = records::width(records::few(n));
     read_plan::read_plan(src, vt, mt, ot, &mut rows[..k])
@@ -50,11 +46,7 @@ pub fn read_plan(
     ot: &mut [u64],
     tasks: &mut [Task],
 ) -> PlanAnswer
-    ensures { λ a. ⌜ (a ≡ planAnswer (now (src .entry)) (tablesOf (now (vt .entry)) (now (mt .entry)) (now (ot .entry)) (now (tasks .entry))))
-        × ((now (vt .exit) ≡ tablesAfter (now (src .entry)) (tablesOf (now (vt .entry)) (now (mt .entry)) (now (ot .entry)) (now (tasks .entry))) .vcpus)
-        × ((now (mt .exit) ≡ tablesAfter (now (src .entry)) (tablesOf (now (vt .entry)) (now (mt .entry)) (now (ot .entry)) (now (tasks .entry))) .mutexes)
-        × ((now (ot .exit) ≡ tablesAfter (now (src .entry)) (tablesOf (now (vt .entry)) (now (mt .entry)) (now (ot .entry)) (now (tasks .entry))) .opens)
-        × (now (tasks .exit) ≡ sheetsAfter (now (src .entry)) (now (vt .entry)) (now (mt .entry)) (now (ot .entry)) (now (tasks .entry)))))) ⌝ }
+    ensures { λ a. ⌜ ReadOut (now (src .entry)) (now (vt .entry)) (now (mt .entry)) (now (ot .entry)) (now (tasks .entry)) a (now (vt .exit)) (now (mt .exit)) (now (ot .exit)) (now (tasks .exit)) ⌝ }
 {
     let mut rows = records::no_rows();
     let a = read_in(src, vt, mt, ot, &mut rows, tasks.len());
@@ -71,8 +63,8 @@ pub fn read_rows(
     ot: &mut [u64],
     rows: &mut [u64],
 ) -> PlanAnswer
-    requires { ⌜ Ample (record { vcpus = now vt; mutexes = now mt; opens = now ot; tasks = now rows }) ⌝ }
-    ensures { λ a. ⌜ a ≡ planAnswer (now (src .entry)) (record { vcpus = now (vt .entry); mutexes = now (mt .entry); opens = now (ot .entry); tasks = now (rows .entry) }) ⌝ }
+    requires { ⌜ Ample (lent (now vt) (now mt) (now ot) (now rows)) ⌝ }
+    ensures { λ a. ⌜ a ≡ planAnswer (now (src .entry)) (lent (now (vt .entry)) (now (mt .entry)) (now (ot .entry)) (now (rows .entry))) ⌝ }
     ensures { λ a. ⌜ now (vt .exit) ≡ linesLeft vcpuPut (now (src .entry)) (now (vt .entry)) ⌝ }
     ensures { λ a. ⌜ now (mt .exit) ≡ linesLeft mutexPut (now (src .entry)) (now (mt .entry)) ⌝ }
     ensures { λ a. ⌜ now (ot .exit) ≡ linesLeft openPut (now (src .entry)) (now (ot .entry)) ⌝ }

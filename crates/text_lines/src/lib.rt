@@ -1,7 +1,8 @@
 // The fields of one line, and what it says. What they mean stands in specs/ of `laws` and `plan`.
+use plan::BAD;
 use plan::Found;
 use plan::Kind;
-use text_words::BAD;
+use plan::TAB;
 ghost use mathlib.Core.Path.{_≡_};
 ghost use Prim.Native.Nat.{_+_};
 ghost use lib.ListN.{length, take, drop};
@@ -13,8 +14,6 @@ ghost use Rattle.plan.specs.Line.{shape, written};
 ghost use Rattle.text_lines.specs.Code as code;
 ghost use Rattle.text_lines.specs.Said.{saidOf};
 ghost use Rattle.plan.specs.Line.{numsOf, size};
-
-const TAB: u8 = 9;
 
 // Where the first `b` of `s` stands; the length of `s` where there is none.
 pub fn cut(s: &[u8], b: u8) -> usize

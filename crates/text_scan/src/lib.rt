@@ -1,4 +1,5 @@
 // The line reader: a record that refers to the input. What a line is stands in specs/Scan.
+use plan::LF;
 use text_lines::Said;
 ghost use mathlib.Core.Path.{_≡_};
 ghost use mathlib.Core.Bool.{true};
@@ -6,8 +7,6 @@ ghost use Prim.Native.Nat.{_+_, _<_, _≤_, _^_};
 ghost use lib.ListN.{drop};
 ghost use Rattle.laws.specs.Choice.{if_then_else_};
 ghost use Rattle.text_scan.specs.Scan.{lineAt, stepAt};
-
-const LF: u8 = 10;
 
 // A line: whether an LF ends it, and if none does, whether nothing is left; what it says; and where the next line begins.
 pub struct Line {

@@ -1,4 +1,5 @@
 // The words and numbers of a line, and its kind. What they mean stands in specs/ of `laws` and `plan`; a word as one number in specs/Keys.
+use plan::BAD;
 use plan::Found;
 use plan::Kind;
 ghost use mathlib.Core.Path.{_≡_};
@@ -8,9 +9,6 @@ ghost use Rattle.laws.specs.Decimal.{digitOf, scan, starts, value};
 ghost use Rattle.plan.specs.Limits.{maxDigits};
 ghost use Rattle.plan.specs.Line.{bad};
 ghost use Rattle.text_words.specs.Keys as keys;
-
-// A number field that is not written as it should be says this.
-pub const BAD: u64 = 10000000;
 
 // The keys of the words: the bytes, and how many.
 const PLAN: u64 = 0x706c616e * 8 + 4;

@@ -6,20 +6,21 @@ use Rattle.laws.specs.Choice.{when}
 use Rattle.laws.specs.Sums.{only}
 use Rattle.search.specs.Row.{Row}
 use Rattle.plan.specs.Plan.{Vcpu, Task}
+use Rattle.plan.specs.Limits.{mostTasks}
 use Rattle.plan_tables.specs.declared.PlanRecord.{PlanRecord}
 use Rattle.plan_tables.specs.Layout.{taskRow}
 use Rattle.figures.specs.System.{System}
 use Rattle.figures.specs.Tabled.{systemIn}
 use Rattle.figures.specs.Figures.{higherTask, gap, lengths}
 use Rattle.figures.specs.Answers.{remoteWaits, lacksWait}
-use Rattle.figures_slices.specs.Stored.{Held}
+use Rattle.figures_slices.specs.Stored.{ValuesAt}
 
 -- ws has the remote waits of each task, and fs a 1 for each that lacks one
 pub record Waits (s : System) (row : ℕ → Task) (n : ℕ) (ws fs : List ℕ) : Type 0 where
-  pub waits-room : 64 ≤ length ws
-  pub flags-room : 64 ≤ length fs
-  pub waits : Held (λ i. i) 8000000 n (λ i. remoteWaits s (row i)) ws
-  pub flags : Held (λ i. i) 1 n (λ i. when (lacksWait s (row i)) 1) fs
+  pub waits-room : mostTasks ≤ length ws
+  pub flags-room : mostTasks ≤ length fs
+  pub waits : ValuesAt (λ i. i) 8000000 n (λ i. remoteWaits s (row i)) ws
+  pub flags : ValuesAt (λ i. i) 1 n (λ i. when (lacksWait s (row i)) 1) fs
 
 abbrev pub WaitsIn : PlanRecord → List ℕ → List ℕ → List ℕ → List ℕ → List ℕ → Type 0
 WaitsIn r vt mt ts ws fs = Waits (systemIn r vt mt ts) (taskRow ts) (r .tasks) ws fs

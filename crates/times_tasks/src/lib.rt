@@ -16,6 +16,7 @@ ghost use Rattle.figures.specs.Tabled.{Fit, systemIn};
 ghost use Rattle.figures.specs.Figures.{vcpuAt, higherTask, lengths, localBlocking, taskDemand};
 ghost use Rattle.figures.specs.Answers.{remoteWaits, lacksWait, isHeld, taskAnswer};
 ghost use Rattle.figures_slices.specs.Stored.{TasksIn, BlockingsIn};
+ghost use Rattle.plan.specs.Limits.{mostTasks};
 ghost use Rattle.times_tasks.specs.Waits.{WaitsIn, preemptRow, taskRows};
 
 // Does task h lack a wait?
@@ -110,7 +111,7 @@ fn higher_rows(
     i: usize,
 ) -> usize
     requires { ⌜ Fit r (now vt) (now mt) (now ts) × TasksIn r (now vt) (now mt) (now ts) (now tf) × WaitsIn r (now vt) (now mt) (now ts) (now ws) (now fs) × (gap ≤ 1000000) × (i < r .tasks) × (240 ≤ length (now rows)) ⌝ }
-    ensures { λ n. ⌜ (n ≤ 64) × (rowsIn (now (rows .exit)) n ≡ map (preemptRow (systemIn r (now (vt .entry)) (now (mt .entry)) (now (ts .entry))) gap) (only (higherTask (taskRow (now (ts .entry)) i)) (rowsOf (r .tasks) (taskRow (now (ts .entry)))))) ⌝ }
+    ensures { λ n. ⌜ (n ≤ mostTasks) × (rowsIn (now (rows .exit)) n ≡ map (preemptRow (systemIn r (now (vt .entry)) (now (mt .entry)) (now (ts .entry))) gap) (only (higherTask (taskRow (now (ts .entry)) i)) (rowsOf (r .tasks) (taskRow (now (ts .entry)))))) ⌝ }
 {
     let count = r.tasks;
     let mut n = 0;

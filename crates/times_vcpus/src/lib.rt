@@ -18,6 +18,7 @@ ghost use Rattle.figures.specs.Figures.{lowerOn, higherOn};
 ghost use Rattle.figures.specs.Answers.{vcpuAnswer};
 ghost use Rattle.figures_slices.specs.Stored.{TasksIn, VcpusIn};
 ghost use Rattle.figures_slices.specs.Costs.{isDeferrable, lowerTimes, blockingCost, blockingGht, costRows, higherRow, vcpuBase};
+ghost use Rattle.plan.specs.Limits.{mostTasks};
 
 // Is the policy D?
 fn is_deferrable(policy: Policy) -> bool
@@ -196,7 +197,7 @@ fn task_rows(
     a: usize,
 ) -> usize
     requires { ⌜ Fit r (now vt) (now mt) (now ts) × TasksIn r (now vt) (now mt) (now ts) (now tf) × (a < r .vcpus) × (240 ≤ length (now rows)) ⌝ }
-    ensures { λ n. ⌜ (n ≤ 64) × (rowsIn (now (rows .exit)) n ≡ costRows (blockingCost d (systemIn r (now (vt .entry)) (now (mt .entry)) (now (ts .entry))) (vcpuRow (now (vt .entry)) a)) (rowsOf (r .tasks) (taskRow (now (ts .entry))))) ⌝ }
+    ensures { λ n. ⌜ (n ≤ mostTasks) × (rowsIn (now (rows .exit)) n ≡ costRows (blockingCost d (systemIn r (now (vt .entry)) (now (mt .entry)) (now (ts .entry))) (vcpuRow (now (vt .entry)) a)) (rowsOf (r .tasks) (taskRow (now (ts .entry))))) ⌝ }
 {
     let count = r.tasks;
     let mut n = 0;
@@ -249,7 +250,7 @@ fn vcpu_rows(
     a: usize,
     n: usize,
 ) -> usize
-    requires { ⌜ Fit r (now vt) (now mt) (now ts) × VcpusIn r (now vt) (now mt) (now ts) (now vf) × (d ≡ isDeferrable (r .policy)) × (a < r .vcpus) × (n ≤ 64) × (240 ≤ length (now rows)) ⌝ }
+    requires { ⌜ Fit r (now vt) (now mt) (now ts) × VcpusIn r (now vt) (now mt) (now ts) (now vf) × (d ≡ isDeferrable (r .policy)) × (a < r .vcpus) × (n ≤ mostTasks) × (240 ≤ length (now rows)) ⌝ }
     ensures { λ e. ⌜ (e ≤ 80) × (rowsIn (now (rows .exit)) e ≡ rowsIn (now (rows .entry)) n ++ map (higherRow (systemIn r (now (vt .entry)) (now (mt .entry)) (now (ts .entry)))) (only (higherOn (vcpuRow (now (vt .entry)) a)) (rowsOf (r .vcpus) (vcpuRow (now (vt .entry)))))) ⌝ }
 {
     let count = r.vcpus;

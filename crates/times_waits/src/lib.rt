@@ -12,7 +12,8 @@ ghost use Rattle.laws.specs.Rows.{rows as rowsOf, Is};
 ghost use Rattle.search.specs.Search.{solve};
 ghost use Rattle.search.specs.Row.{rowsIn};
 ghost use Rattle.plan.specs.Lookup.{global};
-ghost use Rattle.plan_tables.specs.Layout.{cell, lockRow, taskRow};
+ghost use Rattle.plan.specs.Limits.{mostTasks};
+ghost use Rattle.plan_tables.specs.Layout.{cell, lockRow, taskRow, taskWidth};
 ghost use Rattle.figures.specs.Tabled.{Fit, systemIn};
 ghost use Rattle.figures.specs.Figures.{waitStart, waitDemand};
 ghost use Rattle.figures_slices.specs.Stored.{maxResponse, ResponsesIn};
@@ -29,7 +30,7 @@ fn section_on(
     j: usize,
     m: u64,
 ) -> u64
-    requires { ⌜ Fit r (now vt) (now mt) (now ts) × ResponsesIn r (now vt) (now mt) (now ts) (now rf) × (r .tasks * 8 ≤ length (now rf)) × (i < r .tasks) × (j < 8) × (j < cell (now ts) 29 i 4) × (global (systemIn r (now vt) (now mt) (now ts) .mutexes) m ≡ true) ⌝ }
+    requires { ⌜ Fit r (now vt) (now mt) (now ts) × ResponsesIn r (now vt) (now mt) (now ts) (now rf) × (r .tasks * 8 ≤ length (now rf)) × (i < r .tasks) × (j < 8) × (j < cell (now ts) taskWidth i 4) × (global (systemIn r (now vt) (now mt) (now ts) .mutexes) m ≡ true) ⌝ }
     ensures { λ x. ⌜ Is x (responseOn (systemIn r (now (vt .entry)) (now (mt .entry)) (now (ts .entry))) m (taskRow (now (ts .entry)) i) (lockRow (now (ts .entry)) i j)) maxResponse ⌝ }
 {
     if figures_cells::lock_cell(r, vt, mt, ts, i, j, 0) == m {
@@ -157,7 +158,7 @@ fn wait_rows(
     m: u64,
 ) -> usize
     requires { ⌜ Fit r (now vt) (now mt) (now ts) × ResponsesIn r (now vt) (now mt) (now ts) (now rf) × (r .tasks * 8 ≤ length (now rf)) × (global (systemIn r (now vt) (now mt) (now ts) .mutexes) m ≡ true) × (240 ≤ length (now rows)) ⌝ }
-    ensures { λ n. ⌜ (n ≤ 64) × (rowsIn (now (rows .exit)) n ≡ costRows (waitCost (systemIn r (now (vt .entry)) (now (mt .entry)) (now (ts .entry))) v m) (rowsOf (r .tasks) (taskRow (now (ts .entry))))) ⌝ }
+    ensures { λ n. ⌜ (n ≤ mostTasks) × (rowsIn (now (rows .exit)) n ≡ costRows (waitCost (systemIn r (now (vt .entry)) (now (mt .entry)) (now (ts .entry))) v m) (rowsOf (r .tasks) (taskRow (now (ts .entry))))) ⌝ }
 {
     let count = r.tasks;
     let mut n = 0;

@@ -1,7 +1,6 @@
 -- `vcpu_time` meets its contract: 9 first.
-use Rattle.figures_slices.specs.FitLaws.{given-fit}
+use Rattle.figures_slices.specs.FitLaws.{given-fit, foreign-asked, given-asked}
 use Rattle.answers_rows.specs.Asked.{NoRow, vcpuAsked, vcpuRowOf}
-use Rattle.answers_rows.specs.Found.{foreign-asked, given-asked}
 use Rattle.plan.specs.declared.Refusal.the-variants.{Foreign}
 use borrow.Author.Needs.{needs}
 use borrow.Author.Tests.{not-false, not-true}

@@ -4,8 +4,8 @@ use Rattle.figures.specs.Answers.{lacksWait}
 use Rattle.figures.specs.PartLaws.{is-then}
 use Rattle.figures.specs.Tabled.{systemIn}
 use Rattle.laws.specs.Choice.{when}
-use Rattle.figures_slices.specs.Stored.{Held}
-use Rattle.figures_slices.specs.StoredLaws.{held-all, held-more, held-none}
+use Rattle.figures_slices.specs.Stored.{ValuesAt}
+use Rattle.figures_slices.specs.StoredLaws.{values-all, values-more, values-none}
 use Rattle.plan_tables.specs.Layout.{taskRow}
 use borrow.Author.Needs.{needs}
 use lib.ListN.{length, length-set}
@@ -18,9 +18,9 @@ pub fill-flags-spec : {M : Type 1} → statement M
 fill-flags-spec =
     tie.close
     (tie.spec
-    (λ r vt mt ts wa fs₀ n i₀ fs i. (length fs ≡ length fs₀) × Held (λ k. k) 1 i (λ k. when (lacksWait (systemIn r vt mt ts) (taskRow ts k)) 1) fs)
+    (λ r vt mt ts wa fs₀ n i₀ fs i. (length fs ≡ length fs₀) × ValuesAt (λ k. k) 1 i (λ k. when (lacksWait (systemIn r vt mt ts) (taskRow ts k)) 1) fs)
     (λ r vt mt ts wa fs₀ n i₀ fs i. n - i)
-    (λ c. (refl, held-none))
+    (λ c. (refl, values-none))
     (λ c κs. search needs)
     (λ c κs. search needs)
     (λ c. search needs)
@@ -29,8 +29,8 @@ fill-flags-spec =
     (λ c. search needs)
     (λ c. let h = c .before .before .before .before .before .before .before .before .before .pre in let j = c .before .before .before .loop .inv in (
       simp length-set (j .0),
-      held-more _ (j .1) (λ k m. omega arith) (omega (arith, j .0, h .2, h .0 .tasks-few, c .before .before .loop-test .taken))
+      values-more _ (j .1) (λ k m. omega arith) (omega (arith, j .0, h .2, h .0 .tasks-few, c .before .before .loop-test .taken))
           (is-then (c .flag-of .ensures) (ap (λ b. when b 1) (c .before .is-lacking .ensures))),
     ))
     (λ c. search needs)
-    (λ c. held-all (c .before .loop .inv .1) (c .loop-test .left)))
+    (λ c. values-all (c .before .loop .inv .1) (c .loop-test .left)))

@@ -3,10 +3,10 @@ use Prim.Native.Nat.{_-_}
 use Rattle.figures_slices.specs.Places.{found-locks}
 use Rattle.figures.specs.Answers.{isLate, lacksWait, waitAnswer}
 use Rattle.figures.specs.Tabled.{systemIn}
+use Rattle.figures.specs.Figures.{isSection}
 use Rattle.laws.specs.RowLaws.{lacking-all, lacking-more, lacking-none, lacking-out}
 use Rattle.laws.specs.Rows.{Lacking}
 use Rattle.laws.specs.Sums.{any}
-use Rattle.plan.specs.Lookup.{global}
 use Rattle.plan_tables.specs.Layout.{lockRow, taskRow}
 use borrow.Author.Needs.{needs}
 use mathlib.Core.Bool.{_&&_}
@@ -20,7 +20,7 @@ is-lacking-spec =
     tie.close
     (tie.spec
     (λ r vt mt ts wa i n j₀ j.
-    Lacking (λ l. global (systemIn r vt mt ts .mutexes) (l .m) && isLate (waitAnswer (systemIn r vt mt ts) (taskRow ts i) l)) (lockRow ts i) n j)
+    Lacking (λ l. isSection (systemIn r vt mt ts) l && isLate (waitAnswer (systemIn r vt mt ts) (taskRow ts i) l)) (lockRow ts i) n j)
     (λ r vt mt ts wa i n j₀ j. n - j)
     (λ c κs. search needs)
     (λ c. lacking-none)

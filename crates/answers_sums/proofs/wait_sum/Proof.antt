@@ -2,11 +2,11 @@
 use Prim.Native.Nat.{_-_}
 use Rattle.figures.specs.Answers.{remoteWaits, ticksOf, waitAnswer}
 use Rattle.figures.specs.Tabled.{systemIn}
+use Rattle.figures.specs.Figures.{isSection}
 use Rattle.laws.specs.Choice.{when}
 use Rattle.laws.specs.RowLaws.{summed-all, summed-more, summed-none}
 use Rattle.laws.specs.Rows.{Summed}
 use Rattle.laws.specs.Sums.{sum}
-use Rattle.plan.specs.Lookup.{global}
 use Rattle.plan_tables.specs.Layout.{lockRow, taskRow}
 use Rattle.figures_slices.specs.CostLaws.{over-locks}
 use borrow.Author.Needs.{needs}
@@ -20,7 +20,7 @@ wait-sum-spec =
     tie.close
     (tie.spec
     (λ r vt mt ts wa i n s₀ j₀ s j.
-    Summed (λ l. when (global (systemIn r vt mt ts .mutexes) (l .m)) (ticksOf (waitAnswer (systemIn r vt mt ts) (taskRow ts i) l))) (lockRow ts i) 1000000 n s j)
+    Summed (λ l. when (isSection (systemIn r vt mt ts) l) (ticksOf (waitAnswer (systemIn r vt mt ts) (taskRow ts i) l))) (lockRow ts i) 1000000 n s j)
     (λ r vt mt ts wa i n s₀ j₀ s j. n - j)
     (λ c κs. search needs)
     (λ c. summed-none)

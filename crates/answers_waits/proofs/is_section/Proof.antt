@@ -1,5 +1,5 @@
 -- `is_section` meets its contract.
-use Rattle.figures_slices.specs.Filled.{isSection}
+use Rattle.figures_slices.specs.Filled.{sectionAt}
 use Rattle.plan.specs.Lookup.{global}
 use Rattle.plan_tables.specs.Layout.{lockRow}
 use borrow.Author.Needs.{needs}
@@ -10,7 +10,7 @@ use Rattle.answers_waits.proofs.is_section.Statement.{statement}
 use Rattle.answers_waits.proofs.is_section.Tie as tie
 
 pub is-section-spec : {M : Type 1} → statement M
-unfolding isSection lockRow
+unfolding sectionAt lockRow
 is-section-spec =
     tie.close
     (tie.spec

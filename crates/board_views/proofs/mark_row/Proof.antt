@@ -1,6 +1,6 @@
 -- `mark_row` meets its contract: the locks before this one are marked.
 use Prim.Native.Nat.{_-_}
-use Rattle.plan.specs.Plan.{Lock}
+use Rattle.plan.specs.declared.Lock.{Lock}
 use Rattle.plan_tables.specs.Layout.{lockRow}
 use Rattle.board_views.specs.SheetLaws.{Turned, row-marked, turned-all, turned-more, turned-none}
 use Rattle.board_views.specs.Sheets.{marked}

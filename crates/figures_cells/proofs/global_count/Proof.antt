@@ -1,11 +1,10 @@
 -- `global_count` meets its contract.
 use Prim.Native.Nat.{_-_}
-use Rattle.figures.specs.Figures.{globalCount}
+use Rattle.figures.specs.Figures.{globalCount, isSection}
 use Rattle.figures.specs.Tabled.{systemIn}
 use Rattle.laws.specs.Choice.{when}
 use Rattle.laws.specs.RowLaws.{summed-all, summed-more, summed-none}
 use Rattle.laws.specs.Rows.{Summed}
-use Rattle.plan.specs.Lookup.{global}
 use Rattle.plan_tables.specs.Layout.{lockRow, taskRow}
 use borrow.Author.Needs.{needs}
 use Rattle.figures_cells.proofs.global_count.Statement.{statement}
@@ -16,7 +15,7 @@ unfolding globalCount taskRow
 global-count-spec =
     tie.close
     (tie.spec
-    (λ r vt mt ts i n s₀ j₀ s j. Summed (λ l. when (global (systemIn r vt mt ts .mutexes) (l .m)) 1) (lockRow ts i) 1 n s j)
+    (λ r vt mt ts i n s₀ j₀ s j. Summed (λ l. when (isSection (systemIn r vt mt ts) l) 1) (lockRow ts i) 1 n s j)
     (λ r vt mt ts i n s₀ j₀ s j. n - j)
     (λ c κs. search needs)
     (λ c. summed-none)

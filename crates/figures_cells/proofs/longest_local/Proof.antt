@@ -5,7 +5,7 @@ use Rattle.figures.specs.Parts.{localTicks}
 use Rattle.figures.specs.Tabled.{systemIn}
 use Rattle.laws.specs.RowLaws.{greatest-all, greatest-more, greatest-none}
 use Rattle.laws.specs.Rows.{Greatest}
-use Rattle.plan_tables.specs.Layout.{cell, lockRow, taskRow}
+use Rattle.plan_tables.specs.Layout.{cell, lockRow, taskRow, taskWidth}
 use borrow.Author.Needs.{needs}
 use Rattle.figures_cells.proofs.longest_local.Statement.{statement}
 use Rattle.figures_cells.proofs.longest_local.Tie as tie
@@ -15,7 +15,7 @@ unfolding longestLocal taskRow
 longest-local-spec =
     tie.close
     (tie.spec
-    (λ r vt mt ts i n e s₀ j₀ s j. Greatest (localTicks (systemIn r vt mt ts) n (cell ts 29 i 0)) (lockRow ts i) 1000000 e s j)
+    (λ r vt mt ts i n e s₀ j₀ s j. Greatest (localTicks (systemIn r vt mt ts) n (cell ts taskWidth i 0)) (lockRow ts i) 1000000 e s j)
     (λ r vt mt ts i n e s₀ j₀ s j. e - j)
     (λ c κs. search needs)
     (λ c. greatest-none)

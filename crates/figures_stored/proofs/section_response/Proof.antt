@@ -1,6 +1,7 @@
 -- `section_response` meets its contract.
 use Rattle.figures.specs.PartLaws.{is-in, is-out}
 use Rattle.plan.specs.Lookup.{global}
+use Rattle.figures_slices.specs.Filled.{sectionAt}
 use Rattle.figures_slices.specs.Stored.{sectionResponse}
 use Rattle.plan_tables.specs.Layout.{lockRow}
 use borrow.Author.Needs.{needs}
@@ -11,7 +12,7 @@ use Rattle.figures_stored.proofs.section_response.Statement.{statement}
 use Rattle.figures_stored.proofs.section_response.Tie as tie
 
 pub section-response-spec : {M : Type 1} → statement M
-unfolding sectionResponse lockRow
+unfolding sectionResponse sectionAt lockRow
 section-response-spec =
     tie.close
     (tie.spec

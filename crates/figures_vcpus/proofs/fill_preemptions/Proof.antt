@@ -2,7 +2,7 @@
 use Prim.Native.Nat.{_-_}
 use Rattle.figures.specs.Tabled.{systemIn}
 use Rattle.figures_slices.specs.Stored.{Preemptions, VcpuFigures}
-use Rattle.figures_slices.specs.StoredLaws.{held-all, held-more, held-none, vcpus-keep}
+use Rattle.figures_slices.specs.StoredLaws.{values-all, values-more, values-none, vcpus-keep}
 use Rattle.plan_tables.specs.Layout.{vcpuRow}
 use borrow.Author.Needs.{needs}
 use lib.ListN.{length, length-set}
@@ -18,7 +18,7 @@ fill-preemptions-spec =
     (λ r vt mt ts vf₀ n a₀ vf a.
     (length vf ≡ length vf₀) × VcpuFigures (systemIn r vt mt ts) (vcpuRow vt) (r .vcpus) vf × Preemptions (systemIn r vt mt ts) (vcpuRow vt) a vf)
     (λ r vt mt ts vf₀ n a₀ vf a. n - a)
-    (λ c. (refl, c .before .before .before .before .pre .1, held-none))
+    (λ c. (refl, c .before .before .before .before .pre .1, values-none))
     (λ c κs. search needs)
     (λ c. search needs)
     (λ c. search needs)
@@ -30,7 +30,7 @@ fill-preemptions-spec =
     let h = t .before .loop .inv in (
       simp length-set (h .0),
       vcpus-keep _ _ (h .1),
-      held-more _ (h .2) (λ j m. omega arith) (omega (arith, t .loop-test .taken, h .1 .room, t .before .before .before .before .before .before .pre .0 .vcpus-few)) (c .preemption-of .ensures),
+      values-more _ (h .2) (λ j m. omega arith) (omega (arith, t .loop-test .taken, h .1 .room, t .before .before .before .before .before .before .pre .0 .vcpus-few)) (c .preemption-of .ensures),
     ))
     (λ c. search needs)
-    (λ c. let h = c .before .loop .inv in (h .1, held-all (h .2) (c .loop-test .left))))
+    (λ c. let h = c .before .loop .inv in (h .1, values-all (h .2) (c .loop-test .left))))

@@ -1,5 +1,5 @@
 use borrow.Author.Needs.{needs}
-use Rattle.given_test.specs.Tests.{lent}
+use Rattle.plan_tables.specs.Layout.{lent}
 use Rattle.given_test.specs.TestLaws.{rows-clean}
 use Rattle.given_test.proofs.clean_rows.Statement.{statement}
 use Rattle.given_test.proofs.clean_rows.Tie as tie

@@ -1,5 +1,5 @@
 use borrow.Author.Needs.{needs}
-use Rattle.given_test.specs.Tests.{lent}
+use Rattle.plan_tables.specs.Layout.{lent}
 use Rattle.given_test.specs.TestLaws.{few-told, given-told, given-refused}
 use Rattle.given_test.proofs.is_given.Statement.{statement}
 use Rattle.given_test.proofs.is_given.Tie as tie

@@ -22,18 +22,18 @@ part-ticks-rest-start c =
 
 ticks-rest-requires : tie.Need-ticks-rest-requires
 ticks-rest-requires c κs =
-    let s = c .before .before .before .before .before .before in
-    rest-fits (task-rest (s .before .before .args .a) (s .task-parts .ensures)) (s .before .before .pre) (c .before .before .before .before .tab-answer .ensures)
+    let s = c .before .before .before .before .before .before .before in
+    rest-fits (task-rest (s .before .before .args .a) (s .task-parts .ensures)) (s .before .before .pre) (c .before .before .before .before .before .tab-answer .ensures)
 
 add-result : tie.Need-add-result
 add-result c =
-    let s = c .before .before .before .before .before .before .before .before .before in
-    let h = both-fit (task-rest (s .before .before .args .a) (s .task-parts .ensures)) (s .before .before .pre) (c .before .before .before .before .before .before .before .tab-answer .ensures) (c .before .before .ticks-rest .ensures) in search needs
+    let s = c .before .before .before .before .before .before .before .before .before .before in
+    let h = both-fit (task-rest (s .before .before .args .a) (s .task-parts .ensures)) (s .before .before .pre) (c .before .before .before .before .before .before .before .before .tab-answer .ensures) (c .before .before .ticks-rest .ensures) in search needs
 
 returns : tie.Need-returns
 returns c =
-    let s = c .before .before .before .before .before .before .before .before .before in
-    both-wrote (task-rest (s .before .before .args .a) (s .task-parts .ensures)) (s .before .before .pre) (c .before .before .before .before .before .before .before .tab-answer .ensures) (c .before .before .ticks-rest .ensures)
+    let s = c .before .before .before .before .before .before .before .before .before .before in
+    both-wrote (task-rest (s .before .before .args .a) (s .task-parts .ensures)) (s .before .before .pre) (c .before .before .before .before .before .before .before .before .tab-answer .ensures) (c .before .before .ticks-rest .ensures)
 
 pub task-rest-spec : {M : Type 1} → statement M
 task-rest-spec =

@@ -23,18 +23,18 @@ part-ticks-rest-start c =
 
 ticks-rest-requires : tie.Need-ticks-rest-requires
 ticks-rest-requires c κs =
-    let s = c .before .before .before .before .before .before in
-    rest-fits (wait-rest (s .before .before .args .a) (decimal (s .before .before .args .place)) (s .parts-of .ensures)) (s .before .before .pre) (c .before .before .before .before .tab-number .ensures)
+    let s = c .before .before .before .before .before .before .before in
+    rest-fits (wait-rest (s .before .before .args .a) (decimal (s .before .before .args .place)) (s .parts-of .ensures)) (s .before .before .pre) (c .before .before .before .before .before .tab-number .ensures)
 
 add-result : tie.Need-add-result
 add-result c =
-    let s = c .before .before .before .before .before .before .before .before .before in
-    let h = both-fit (wait-rest (s .before .before .args .a) (decimal (s .before .before .args .place)) (s .parts-of .ensures)) (s .before .before .pre) (c .before .before .before .before .before .before .before .tab-number .ensures) (c .before .before .ticks-rest .ensures) in search needs
+    let s = c .before .before .before .before .before .before .before .before .before .before in
+    let h = both-fit (wait-rest (s .before .before .args .a) (decimal (s .before .before .args .place)) (s .parts-of .ensures)) (s .before .before .pre) (c .before .before .before .before .before .before .before .before .tab-number .ensures) (c .before .before .ticks-rest .ensures) in search needs
 
 returns : tie.Need-returns
 returns c =
-    let s = c .before .before .before .before .before .before .before .before .before in
-    both-wrote (wait-rest (s .before .before .args .a) (decimal (s .before .before .args .place)) (s .parts-of .ensures)) (s .before .before .pre) (c .before .before .before .before .before .before .before .tab-number .ensures) (c .before .before .ticks-rest .ensures)
+    let s = c .before .before .before .before .before .before .before .before .before .before in
+    both-wrote (wait-rest (s .before .before .args .a) (decimal (s .before .before .args .place)) (s .parts-of .ensures)) (s .before .before .pre) (c .before .before .before .before .before .before .before .before .tab-number .ensures) (c .before .before .ticks-rest .ensures)
 
 pub wait-rest-spec : {M : Type 1} → statement M
 wait-rest-spec =

@@ -8,8 +8,8 @@ use Rattle.listing_lines.proofs.wait_rest_size.Tie as tie
 
 returns : tie.Need-returns
 returns c =
-    let a = c .before .before .before .before .args in
-    tabbed-sized (wait-rest (a .a) (decimal (a .place)) (c .before .before .before .parts-of .ensures)) (c .before .before .number-size .ensures) (c .ticks-size .ensures)
+    let a = c .before .before .before .before .before .args in
+    tabbed-sized (wait-rest (a .a) (decimal (a .place)) (c .before .before .before .before .parts-of .ensures)) (c .before .before .before .number-size .ensures) (c .ticks-size .ensures)
 
 pub wait-rest-size-spec : {M : Type 1} → statement M
 wait-rest-size-spec =

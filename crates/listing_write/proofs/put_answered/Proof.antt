@@ -13,7 +13,7 @@ fits c κs =
     let s = c .before .before .before .before .before .before .before .before .before .before .before in
     let a = s .args in
     let h = s .pre in
-    let room = tested-room {t = listing (systemIn (a .r) (a .vt .now) (a .mt .now) (a .ts .now))} (record { is = c .before .before .roomy .ensures }) (not-false _ (c .before .if1 .left)) in
+    let room = tested-room {t = listing (systemIn (a .r) (a .vt .now) (a .mt .now) (a .ts .now))} (record { is = c .before .before .has-room .ensures }) (not-false _ (c .before .if1 .left)) in
     (h .0, h .1, h .2, h .3, room)
 
 pub put-answered-spec : {M : Type 1} → statement M
@@ -22,8 +22,8 @@ put-answered-spec =
     (tie.spec
     (λ c κs. search needs)
     (λ c κs. search needs)
-    (λ c. answered-as (c .no-room .ensures) (tested-out (record { is = c .before .before .roomy .ensures }) refl (not-true _ (c .before .if1 .taken))))
+    (λ c. answered-as (c .no-room .ensures) (tested-out (record { is = c .before .before .has-room .ensures }) refl (not-true _ (c .before .if1 .taken))))
     fits
     (λ c κs. search needs)
     (λ c. search needs)
-    (λ c. let s = c .before .before .before in answered-as (c .written .ensures) (tested-in (record { is = s .before .before .before .roomy .ensures }) refl (not-false _ (s .before .before .if1 .left)) (s .put-listing .ensures))))
+    (λ c. let s = c .before .before .before in answered-as (c .written .ensures) (tested-in (record { is = s .before .before .before .has-room .ensures }) refl (not-false _ (s .before .before .if1 .left)) (s .put-listing .ensures))))

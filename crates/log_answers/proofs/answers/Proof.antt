@@ -10,10 +10,10 @@ use Rattle.plan.specs.Limits.{lf}
 use Rattle.listing.specs.Listing.{line}
 use Rattle.board_rules.specs.declared.Board.{Board}
 use Rattle.board_rules.specs.View.{factsIn}
-use Rattle.board_rules.specs.Events.{answerFields}
+use Rattle.board_rules.specs.Events.{answerFields, repliesTo}
 use Rattle.log_replies.specs.Parts.{endText}
 use Rattle.log_answers.specs.Stays.{line-stays}
-use Rattle.log_answers.specs.LoopLaws.{repliesTo, line-fits, replies-last, replies-next}
+use Rattle.log_answers.specs.LoopLaws.{line-fits, replies-last, replies-next}
 use Rattle.log_answers.specs.TellLaws.{Run, run-none, run-space, run-more, run-all, told-long}
 use Rattle.log_answers.proofs.answers.Statement.{statement}
 use Rattle.log_answers.proofs.answers.Tie as tie

@@ -1,9 +1,8 @@
 -- `read_plan::read_plan` meets its contract.
 use mathlib.Core.Path.{_≡_, _∙_}
 use borrow.Author.Needs.{needs}
-use Rattle.plan_tables.specs.Layout.{Tables}
+use Rattle.plan_tables.specs.Layout.{Tables, lent}
 use Rattle.read_answer.specs.Into.{planAnswer}
-use Rattle.read_answer.specs.Judged.{lent}
 use Rattle.read_answer.specs.JudgedLaws.{Left, read-answer, read-left}
 use Rattle.read_plan.proofs.read_plan.Statement.{statement}
 use Rattle.read_plan.proofs.read_plan.Tie as tie

@@ -5,6 +5,7 @@ use mathlib.Core.List.{List, _++_}
 use native.Mathlib.Omega.{arith}
 use borrow.Author.Needs.{needs}
 use lib.ListN.{length, take, drop, take-append-drop, length-drop}
+use Rattle.plan_tables.specs.Layout.{taskWidth}
 use Rattle.records.proofs.all_kept.Statement.{statement}
 use Rattle.records.proofs.all_kept.Tie as tie
 
@@ -23,12 +24,12 @@ room c κs =
     let l = c .before .before .before .loop in
     let h = c .before .before .before .before .before .pre in
     let t = c .before .before .loop-test .taken in
-    (omega (arith, c .few-of .ensures), omega (arith, c .few-of .ensures, l .inv .1, h .0, h .1, t, length-drop (l .i * 29) (l .rows)))
+    (omega (arith, c .few-of .ensures), omega (arith, c .few-of .ensures, l .inv .1, h .0, h .1, t, length-drop (l .i * taskWidth) (l .rows)))
 
 loop-again : tie.Need-loop-again Inv-loop μ-loop
 loop-again c =
     let l = c .before .before .before .before .before .before .loop in
-    let e = part-back (l .i * 29) (l .rows) _ (c .before .before .kept .ensures) ∙ l .inv .2 in
+    let e = part-back (l .i * taskWidth) (l .rows) _ (c .before .before .kept .ensures) ∙ l .inv .2 in
     (omega (arith, c .before .before .before .before .before .loop-test .taken), ap length e, e)
 
 pub all-kept-spec : {M : Type 1} → statement M

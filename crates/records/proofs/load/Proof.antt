@@ -8,7 +8,7 @@ use types.Run.{load as read}
 use denote.Memory.{mem as inMem}
 use denote.Struct.Laws as LL
 use Rattle.plan_tables.specs.Layout.{over}
-use Rattle.records.specs.Sheet.{Task, noTask, taskNums, sheetRows, cutTo}
+use Rattle.records.specs.Sheet.{Task, blankTask, taskNums, sheetRows, cutTo}
 use Rattle.records.specs.SheetLaws.{cut-long, cut-few, cut-none, cut-more, over-long}
 use Rattle.records.proofs.Task as T
 use Rattle.records.proofs.Task.Laws as T′
@@ -137,8 +137,8 @@ module _ {M : Type 1} (𝓤 : URA M) (H : Heap 𝓤) (A : Atoms 𝓤) (W : Given
         qed W ((‵ (flft κ q) ⊛ ‵ ftrue) ∷ ‵ Own ∷ []) ∵ says ! (omega arith) $ frame ! $
         nothing ! $ owned ! usize (Is usize) (uint-makes 𝓤 H A W w64) i _ (refl, omega arith) $ fjoin ! $ move ! (1 ∷ 0 ∷ []) $ fjoin ! $ done !
 
-    task-said : (i : ℕ) (t : Task) → ent 𝓤 (ensured 𝓤 H A task.ended (task.clauses 𝓤 H A mem run) (κ, tt) (x, (i, tt)) tt t) (fact 𝓤 (t ≡ getD ts i noTask))
-    task-said i t = exE 𝓤 _ (λ ws. snd∗ 𝓤 (sem 𝓤 H A (lasts task.ended (κ, tt) (x, (i, tt)) ws)) (fact 𝓤 (t ≡ getD ts i noTask)))
+    task-said : (i : ℕ) (t : Task) → ent 𝓤 (ensured 𝓤 H A task.ended (task.clauses 𝓤 H A mem run) (κ, tt) (x, (i, tt)) tt t) (fact 𝓤 (t ≡ getD ts i blankTask))
+    task-said i t = exE 𝓤 _ (λ ws. snd∗ 𝓤 (sem 𝓤 H A (lasts task.ended (κ, tt) (x, (i, tt)) ws)) (fact 𝓤 (t ≡ getD ts i blankTask)))
 
     -- the loan of the rows l, at a lifetime α that the walk makes, under the name δ
     abbrev lent : GName → List ℕ → RefT (List ℕ)
@@ -217,7 +217,7 @@ module _ {M : Type 1} (𝓤 : URA M) (H : Heap 𝓤) (A : Atoms 𝓤) (W : Given
           move ! (2 ∷ 0 ∷ []) $ use2 W (raw (TaskAt 𝓤 H A mem run .pre (to-task i))) (goes-task i small) $
           calls-at ! fm (TaskAt 𝓤 H A mem run) known-task (to-task i) (and-then ! (read ! (from ! (stop !)) (look ! 25 refl)) (and-then ! (read ! (from ! (stop !)) (look ! 17 refl)) (no-more !))) (λ w.
           use1 W (later (some (λ (r : Task). ((‵ (flft κ q) ⊛ ‵ ftrue) ⊛ ‵ (T.the-row .own r (w ∷ []))) ⊛ raw (ensured 𝓤 H A task.ended (task.clauses 𝓤 H A mem run) (κ, tt) (x, (i, tt)) tt r)))) (id⊢ 𝓤 _) $ await ! tt $ pick ! (λ r.
-          split ! $ move ! (1 ∷ []) $ use1 W (raw (fact 𝓤 (r ≡ getD ts i noTask))) (task-said i r) $ heard ! (r ≡ getD ts i noTask) (λ e. split ! $ move ! (1 ∷ []) $
+          split ! $ move ! (1 ∷ []) $ use1 W (raw (fact 𝓤 (r ≡ getD ts i blankTask))) (task-said i r) $ heard ! (r ≡ getD ts i blankTask) (λ e. split ! $ move ! (1 ∷ []) $
           peeks ! T.the-row (Is T.the-row) (shows 𝓤 H A T.the-row) r (w ∷ []) (λ is. drop ! $
           land ! (from ! (stop !)) (init ! 5 refl (row-typed r w is)) $
           -- [tasks's token; what tasks owns; the rows; _11; …]: the borrow is opened, and the rows are lent again
@@ -241,7 +241,7 @@ module _ {M : Type 1} (𝓤 : URA M) (H : Heap 𝓤) (A : Atoms 𝓤) (W : Given
           assigns-last ! (bin ! (read ! (from ! (stop !)) (look ! 17 refl)) (lit ! tt) (record { fits = next-fits })) (from ! (stop !)) (store ! 17 refl (tt, record { fits = next-fits })) $
           forget ! 5 refl $ forget ! 7 refl $ forget ! 9 refl $ forget ! 11 refl $ forget ! 13 refl $ by ! (below t (n - (i + 1)) (i + 1) (let k = h .left in omega arith) (record { left = refl; most = omega arith })))))))))))))
         where
-          next : (r : Task) → r ≡ getD ts i noTask → sets (zs i) (i * 29) (taskNums r) ≡ zs (i + 1)
+          next : (r : Task) → r ≡ getD ts i blankTask → sets (zs i) (i * 29) (taskNums r) ≡ zs (i + 1)
           next r e = ap (λ (z : Task). sets (zs i) (i * 29) (taskNums z)) e ∙ cut-more ts ys i (omega arith) (omega arith)
 
           next-fits : i + 1 < 2 ^ 64

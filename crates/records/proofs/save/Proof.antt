@@ -5,7 +5,7 @@ use Rattle.records.proofs.Kit.{refl, sym, ap, subst, _≡_, _∙_, ℕ,
 use lib.Dec.{T as Holds}
 use types.Run.{load as read}
 use denote.Struct.Laws as LL
-use Rattle.records.specs.Sheet.{Task, noTask, taskOf, saved}
+use Rattle.records.specs.Sheet.{Task, blankTask, taskOf, saved}
 use Rattle.records.specs.SaveLaws.{saved-none, saved-more, saved-length}
 use Rattle.records.proofs.Task as T
 use Rattle.records.proofs.Task.Laws as T′
@@ -153,7 +153,7 @@ module _ {M : Type 1} (𝓤 : URA M) (H : Heap 𝓤) (A : Atoms 𝓤) (W : Given
         assigns ! (bin ! (read ! (from ! (stop !)) (look ! 13 refl)) (lit ! tt) (record { fits = fits })) (from ! (stop !)) (init ! 7 refl (tt, record { fits = fits })) $
         assigns ! (bin ! (read ! (from ! (fld ! refl (stop !))) (look-in ! 19 (sub ! 0 refl (whole !)))) (read ! (from ! (stop !)) (look ! 7 refl)) tt) (from ! (stop !)) (init ! 5 refl (tt, tt)) $
         rewrite ! 5 (λ (p : ℕ). ‵ (fat fullShare tyPtr l₈ 0 (vptr b p))) (sym (place-is 232 o i)) refl $
-        move ! (2 ∷ 3 ∷ 4 ∷ []) $ opens-slice ! tt T.the-row (zs i) b o $ elem-out ! T.the-row (Is T.the-row) (shows 𝓤 H A T.the-row) (LL.vals T.the-type T′.the-laws) (LL.tells T.the-type T′.the-laws) fullShare (zs i) i noTask b o within (λ _.
+        move ! (2 ∷ 3 ∷ 4 ∷ []) $ opens-slice ! tt T.the-row (zs i) b o $ elem-out ! T.the-row (Is T.the-row) (shows 𝓤 H A T.the-row) (LL.vals T.the-type T′.the-laws) (LL.tells T.the-type T′.the-laws) fullShare (zs i) i blankTask b o within (λ _.
         -- [tasks[i]; what it owns; the others; the open borrow; obs; auth; the rows' token; what they own; _8; …]
         assigns ! (of-opd ! (read ! (from ! (stop !)) (look ! 14 refl))) (from ! (hop ! (look ! 8 refl) (stop !))) (store-raw ! 0 refl (row-typed r w is)) $
         move ! (1 ∷ []) $ drop ! $ owned ! T.the-row (Is T.the-row) (LL.makes T.the-type T′.the-plain 𝓤 H A) r _ is $ move ! (1 ∷ 0 ∷ []) $ elem-put ! T.the-row fullShare (zs i) i r (w ∷ []) b o within $

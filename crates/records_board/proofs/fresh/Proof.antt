@@ -1,4 +1,4 @@
--- `records_ask::fresh` meets its contract: a walk of its MIR, by hand. The board at first, over lent tables.
+-- `records_board::fresh` meets its contract: a walk of its MIR, by hand. The board at first, over lent tables.
 -- A local of numbers is lent as a `&mut [u64]` to `load`, beside the records, taken back, and lent as a `&[u64]` to `fresh_in`, which is covered. All that the proof knows of each callee is that it meets its contract.
 -- Assumes nothing.
 use Rattle.records.proofs.Kit.{refl, sym, ap, _≡_, _∙_, ℕ, [], _∷_, List, length, URA, named, w64, Val, SProp, ent, emp, via, fst∗, id⊢, exE, snd∗, GName, Lft, Share, ftrue, flft, fat, fsep, froom, flent, Memory, Routine, Heap, Calls, Loops, WpFn, Tables, Atoms, sem, Fun, fact, givenOf, tables, tablesOf, Given, ‵, _⊛_, ⋆, _$_, _∵_, !, qed, by, move, suffices, frame, done, split, join, rewrite, fsplit, fjoin, drop, feqI, raw, some, later, use0, use1, use2, pick, await, use3, look, init, forget, stop, from, load, of-opd, assigns, returns, enter, alloc1, alloc0, params1, pass1, pass0, free1, free0, and-then, no-more, land, addr, agg, WpFn-mono, FmC, fmOf, owns, Is, shows, uint-makes, uint-lawful, usize, u64, sliceVal, ShrSlice, Room, slice-vals, shr-slice-tells, shr-slice-copy, plain, owned, nothing, peeks, heard, Vals, onEntry, Meets, tripleOf, entered, cited, says, Stays, stay-none-slice, walkOf, goes-none-slice, Walks, ends-at, walked, walk-meets, stay-none, goes-none, yes, RefT, arith, fullShare, row, whole-in, whole-out, Held, lends-slice, slice-back, lends-shr-slice, lit<, shares, Contract, Triple, calls-at, ensured, lasts, lft-new, lft-end, lent-back, cells, Arr, arr-parts, Lfts, lit}

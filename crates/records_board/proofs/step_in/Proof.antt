@@ -1,4 +1,4 @@
--- `records_ask::step_in` meets its contract.
+-- `records_board::step_in` meets its contract.
 use mathlib.Core.Path.{sym}
 use lib.Seq.{length-take-le}
 use borrow.Author.Needs.{needs}

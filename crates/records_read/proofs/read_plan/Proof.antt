@@ -1,4 +1,4 @@
--- `records::read_plan` meets its contract: a walk of its MIR, by hand. A local of numbers is lent as a `&mut [u64]` to `read_in`, which is covered, beside the input and the tables, taken back, and lent as a `&[u64]` to `save`. All that the proof knows of each callee is that it meets its contract.
+-- `records_read::read_plan` meets its contract: a walk of its MIR, by hand. A local of numbers is lent as a `&mut [u64]` to `read_in`, which is covered, beside the input and the tables, taken back, and lent as a `&[u64]` to `save`. All that the proof knows of each callee is that it meets its contract.
 -- Each table's borrow goes to its callee at its own lifetime, share and ghost name, and is given up for good (`gave-slice`). For each loan of the local a lifetime is made, and ended after the call.
 -- Assumes nothing.
 use Rattle.records.proofs.Kit.{refl, sym, subst, _≡_, _∙_, ℕ, _≤_, [], _∷_, List, length, URA, named, w64, Val, vint, SProp, ent, emp, via, fst∗, id⊢, GName, Lft, Share, ftrue, flft, fat, fsep, Fml, froom, flent, Memory, Routine, Heap, Calls, Loops, WpFn, Tables, Atoms, Fun, fact, givenOf, tables, tablesOf, Given, ‵, _⊛_, ⋆, _$_, _∵_, !, qed, by, move, suffices, frame, done, split, join, rewrite, fsplit, fjoin, drop, feqI, raw, some, later, use0, use1, use2, pick, await, use3, feqL, look, init, forget, stop, fld, from, of-opd, assigns, returns, enter, alloc1, alloc0, params1, pass1, pass0, free1, free0, hop, and-then, no-more, land, addr, whole, sub, look-in, agg, WpFn-mono, FmC, fmOf, owns, Is, shows, uint-makes, uint-lawful, Nothing, nothing-lawful, usize, u64, u8, sliceVal, ShrSlice, Room, slice-vals, shr-slice-tells, MutSlice, mut-slice-tells, shr-slice-copy, finally, plain, owned, nothing, peeks, heard, Vals, onEntry, Meets, tripleOf, entered, cited, says, Stays, stay-none-slice, walkOf, goes-none-slice, Walks, ends-at, walked, walk-meets, gave-slice, goes-gave-slice, yes, RefT, arith, fullShare, row, whole-in, whole-out, Held, lends-slice, slice-back, lends-shr-slice, lit<, shares, Contract, Triple, calls-at, ensured, lasts, lft-new, lft-end, lent-back, cells, Arr, arr-parts, Lfts}
@@ -10,8 +10,8 @@ use Rattle.read_answer.proofs.PlanAnswer as E
 use Rattle.read_answer.proofs.PlanAnswer.Laws as E′
 use Rattle.records.specs.declared.Task.{Task}
 use Rattle.records.specs.Sheet.{noRows, saved}
-use Rattle.records_read.specs.After.{countOf}
-use Rattle.records_read.specs.ReadLaws.{ReadIn, ReadOut, read-count, read-all}
+use Rattle.records_read.specs.After.{countOf, ReadIn, ReadOut}
+use Rattle.records_read.specs.ReadLaws.{read-count, read-all}
 use Rattle.records.proofs.Lent.{val, ToWrite, lent, shared, big-lit, R, rows, room, none-long, none-room, rows-typed, to-row, to-room}
 use Rattle.records_read.proofs.Counted.{Count, to-count, goes-count, count-said}
 use Rattle.records.proofs.Task as T

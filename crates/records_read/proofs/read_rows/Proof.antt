@@ -1,9 +1,8 @@
--- `records::read_rows` meets its contract.
+-- `records_read::read_rows` meets its contract.
 use mathlib.Core.Path.{ap, _∙_}
 use native.Mathlib.Omega.{arith}
 use borrow.Author.Needs.{needs}
-use Rattle.plan_tables.specs.Layout.{Tables}
-use Rattle.read_answer.specs.Judged.{lent}
+use Rattle.plan_tables.specs.Layout.{Tables, lent}
 use Rattle.read_answer.specs.Ample.{ample-answer}
 use Rattle.records_read.specs.After.{countOf}
 use Rattle.records_read.specs.ReadLaws.{count-few}

@@ -1,12 +1,12 @@
--- `roomy` meets its contract.
+-- `has_room` meets its contract.
 use lib.Dec.{leb}
 use mathlib.Core.Path.{ap}
 use borrow.Author.Needs.{needs}
-use Rattle.listing_write.proofs.roomy.Statement.{statement}
-use Rattle.listing_write.proofs.roomy.Tie as tie
+use Rattle.listing_write.proofs.has_room.Statement.{statement}
+use Rattle.listing_write.proofs.has_room.Tie as tie
 
-pub roomy-spec : {M : Type 1} → statement M
-roomy-spec =
+pub has-room-spec : {M : Type 1} → statement M
+has-room-spec =
     tie.close
     (tie.spec
     (λ c κs. search needs)
