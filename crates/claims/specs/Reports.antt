@@ -1,7 +1,7 @@
 -- Demand 3 (Reported) of what the calls answer (answers_rows/Asked).
-use Prim.Native.Nat.{ℕ, _≤_, _<_}
+use Prim.Native.Nat.{ℕ, _≤_}
 use mathlib.Core.Path.{_≡_, refl, ap, sym, _∙_}
-use mathlib.Core.Bool.{Bool, true, false, _||_, false≢true, true≢false}
+use mathlib.Core.Bool.{Bool, true, false, false≢true, true≢false}
 use mathlib.Core.List.{List, [], _∷_, List·Memᴰ, List·Memᴰ·head, List·Memᴰ·tail}
 use mathlib.Core.Logic.{_↔_}
 use mathlib.Core.Option.{some}
@@ -22,8 +22,8 @@ use Rattle.plan.specs.Plan.{Vcpu, Task}
 use Rattle.plan.specs.Lookup.{hasVcpu}
 use Rattle.plan_tables.specs.declared.PlanRecord.{PlanRecord}
 use Rattle.plan_tables.specs.Layout.{Tables}
-use Rattle.plan_tables.specs.Given.{planIn, isGiven}
-use Rattle.figures.specs.System.{System, system}
+use Rattle.plan_tables.specs.Given.{isGiven}
+use Rattle.figures.specs.System.{System}
 use Rattle.figures.specs.Figures.{vcpuAt, higherTask, vcpuDemand, waitDemand, lengths, taskDemand, response, isSection}
 use Rattle.figures.specs.Named.{hasTask, taskAt, lockAt, hasSection}
 use Rattle.figures.specs.Demands.{vcpu-demand, wait-demand, task-demand}

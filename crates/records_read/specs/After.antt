@@ -21,8 +21,8 @@ unfoldable pub sheetsAfter : List ℕ → List ℕ → List ℕ → List ℕ →
 sheetsAfter s vt mt ot ks = saved ks (tablesAfter s (tablesOf vt mt ot ks) .tasks) (countOf (planAnswer s (tablesOf vt mt ot ks)))
 
 -- WHAT A READER SAYS of tables t: its answer a, what it leaves of VCPUs, mutexes and opens, and K of the tasks
-abbrev Reads : List ℕ → Tables → PlanAnswer → List ℕ → List ℕ → List ℕ → Type 0 → Type 0
-Reads s t a v m o K = (a ≡ planAnswer s t) × ((v ≡ tablesAfter s t .vcpus) × ((m ≡ tablesAfter s t .mutexes) × ((o ≡ tablesAfter s t .opens) × K)))
+abbrev ReaderSays : List ℕ → Tables → PlanAnswer → List ℕ → List ℕ → List ℕ → Type 0 → Type 0
+ReaderSays s t a v m o K = (a ≡ planAnswer s t) × ((v ≡ tablesAfter s t .vcpus) × ((m ≡ tablesAfter s t .mutexes) × ((o ≡ tablesAfter s t .opens) × K)))
 
 -- the numbers of n records, and of no more than there are places for
 abbrev pub numsFor : ℕ → ℕ
@@ -31,8 +31,8 @@ numsFor n = min n mostTasks * taskWidth
 -- the reader into numbers t, of which those of n records are lent, and the rest is left
 abbrev pub ReadIn : List ℕ → List ℕ → List ℕ → List ℕ → List ℕ → ℕ → PlanAnswer → List ℕ → List ℕ → List ℕ → List ℕ → Type 0
 ReadIn s vt mt ot t n a v m o w =
-    Reads s (lent vt mt ot (take (numsFor n) t)) a v m o (w ≡ tablesAfter s (lent vt mt ot (take (numsFor n) t)) .tasks ++ drop (numsFor n) t)
+    ReaderSays s (lent vt mt ot (take (numsFor n) t)) a v m o (w ≡ tablesAfter s (lent vt mt ot (take (numsFor n) t)) .tasks ++ drop (numsFor n) t)
 
 -- the reader into records
 abbrev pub ReadOut : List ℕ → List ℕ → List ℕ → List ℕ → List Task → PlanAnswer → List ℕ → List ℕ → List ℕ → List Task → Type 0
-ReadOut s vt mt ot ks a v m o zs = Reads s (tablesOf vt mt ot ks) a v m o (zs ≡ sheetsAfter s vt mt ot ks)
+ReadOut s vt mt ot ks a v m o zs = ReaderSays s (tablesOf vt mt ot ks) a v m o (zs ≡ sheetsAfter s vt mt ot ks)
