@@ -19,7 +19,7 @@ use Rattle.plan.specs.Plan.{Vcpu, Owner, Global, Local, Mutex, Open, Task, Plan
 use Rattle.plan.specs.Lookup.{isGlobal, isLocalTo, hasVcpu, hasMutex, global, localTo}
 use Rattle.plan.specs.Valid.{VcpuValid, MutexValid, LockValid, TaskValid, Valid}
 use Rattle.plan.specs.ListLaws.{any-weaker, chain-rest, rising-above}
-use Rattle.plan.specs.LookupLaws.{of-has, reach-has}
+use Rattle.plan.specs.LookupLaws.{declared-exactly, mutex-exactly, global-exactly, local-exactly, of-declared, reach-declared}
 use Rattle.figures.specs.System.{system}
 use Rattle.figures.specs.Figures.{vcpuAt, noVcpu, longestGlobal, ght, overrunBy, overrunOf, locksIt, ceiling}
 use Rattle.board_rules.specs.Facts.{factsOf}
@@ -80,13 +80,13 @@ record TaskFair (vs : List Vcpu) (ms : List Mutex) (k : Task) : Type 0 where
 
 lock-fair : (ms : List Mutex) (os : List Open) (g v : ℕ) (l : Lock) → LockValid ms os g v l → LockFair ms v l
 lock-fair ms os g v l h = record {
-  declared = reach-has ms os g v (l .m) (h .within-reach);
-  own = λ e. ⊎-elim (λ q. q) (λ q. absurd (clash (both-left (global ms (l .m)) _ q) e)) (either-of (localTo ms v (l .m)) _ (h .within-reach));
+  declared = mutex-exactly ms (l .m) .1 (reach-declared ms os g v (l .m) (h .within-reach));
+  own = λ e. ⊎-elim (local-exactly ms v (l .m) .1) (λ q. absurd (clash (global-exactly ms (l .m) .1 (q .0)) e)) (h .within-reach);
 }
 
 task-fair : (vs : List Vcpu) (ms : List Mutex) (os : List Open) (g : ℕ) (k : Task) → TaskValid vs ms os g k → TaskFair vs ms k
 task-fair vs ms os g k h = record {
-  v-declared = of-has vs g (k .v) (h .own-vcpu);
+  v-declared = declared-exactly vs (k .v) .1 (of-declared vs g (k .v) (h .own-vcpu));
   n-from = h .n-in .0;
   n-to = h .n-in .1;
   locks-fair = each-map (k .locks) (lock-fair ms os g (k .v)) (h .locks-valid);

@@ -4,7 +4,7 @@ use mathlib.Core.Path.{_≡_, ap, sym, _∙_}
 use mathlib.Core.Bool.{Bool, true, false}
 use Rattle.laws.specs.Rows.{rows}
 use Rattle.plan.specs.Lookup.{hasVcpu}
-use Rattle.plan.specs.LookupLaws.{of-has}
+use Rattle.plan.specs.LookupLaws.{declared-exactly, of-declared}
 use Rattle.plan.specs.Valid.{Valid}
 use Rattle.plan_tables.specs.declared.PlanRecord.{PlanRecord}
 use Rattle.plan_tables.specs.Layout.{Tables, vcpuRow, taskRow}
@@ -19,7 +19,7 @@ module _ (r : PlanRecord) (t : Tables) where
   task-hosted : Valid (planIn r t) → (i : ℕ) → i < r .tasks → hasVcpu (rows (r .vcpus) (vcpuRow (t .vcpus))) (taskRow (t .tasks) i .v) ≡ true
   unfolding planIn
   task-hosted h i l =
-      row-valid {P = λ k. hasVcpu (rows (r .vcpus) (vcpuRow (t .vcpus))) (k .v) ≡ true} r t h (λ g k w. of-has _ g (k .v) (w .own-vcpu)) i l
+      row-valid {P = λ k. hasVcpu (rows (r .vcpus) (vcpuRow (t .vcpus))) (k .v) ≡ true} r t h (λ g k w. declared-exactly _ (k .v) .1 (of-declared _ g (k .v) (w .own-vcpu))) i l
 
   pub given-fit : isGiven r t ≡ true → Fit r (t .vcpus) (t .mutexes) (t .tasks)
   unfolding taskRow

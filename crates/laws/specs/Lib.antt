@@ -14,3 +14,4 @@ pub mod Fields
 pub mod Steps
 pub mod FirstLaws
 pub mod Once
+pub mod Sure

@@ -1,8 +1,8 @@
 -- Laws of `Sums`: what is rounded up, summed up or maximised rises with its parts, and a sum or a product may be capped early.
 use Prim.Native.Nat.{ℕ, zero, suc, _+_, _-_, _*_, _/_, _≤_, _<_, min, max}
 use mathlib.Core.Bool.{Bool, true, false, _&&_, _||_, and-assoc, or-assoc, false≢true}
-use mathlib.Core.List.{List, [], _∷_, _++_, append-assoc}
-use mathlib.Core.Path.{_≡_, refl, ap, ap₂, _∙_}
+use mathlib.Core.List.{List, [], _∷_, _++_, append-assoc, List·Memᴰ, List·Memᴰ·head, List·Memᴰ·tail}
+use mathlib.Core.Path.{_≡_, refl, ap, ap₂, sym, subst, _∙_}
 use mathlib.Core.Logic.{_↔_, ⊎-elim, by-cases}
 use native.Mathlib.Nat.{div-zero, div-eq-of-lt, add-div-right, div-lt-iff-lt-mul, eq-zero-or-pos, mul-le-mul, le-refl, le-trans, le-mul-of-pos-right, add-le-add, min-eq-left, min-eq-right, max-le, mul-zero, mul-comm}
 use native.Mathlib.Omega.{arith}
@@ -10,7 +10,7 @@ use native.Mathlib.Decide.{decLe}
 use lib.ListN.{length, getD}
 use Rattle.laws.specs.BoolLaws.{both-left, both-right, both, either-left, either-right, neither-left, neither-right, neither, either-of}
 use Rattle.laws.specs.Choice.{when}
-use Rattle.laws.specs.Sums.{up, sum, greatest, any, all, first, flat, only, Each}
+use Rattle.laws.specs.Sums.{up, sum, greatest, any, all, first, flat, only, Each, Has}
 
 -- ROUNDING UP
 
@@ -202,6 +202,31 @@ pub each-at : {A : Type 0} (P : A → Type 0) (xs : List A) (i : ℕ) (d : A) �
 each-at P [] i d h l = absurd (omega arith)
 each-at P (x ∷ xs) zero d h l = h .0
 each-at P (x ∷ xs) (suc i) d h l = each-at P xs i d (h .1) (omega arith)
+
+-- MEMBERS
+
+-- every row of xs is a member of it
+pub members : {A : Type 0} (xs : List A) → Each (λ x. List·Memᴰ x xs) xs
+members [] = tt
+members (x ∷ xs) = (List·Memᴰ·head refl, each-map xs (λ y m. List·Memᴰ·tail m) (members xs))
+
+-- what holds of each row holds of a member
+pub each-has : {A : Type 0} (P : A → Type 0) {x : A} (xs : List A) → Each P xs → List·Memᴰ x xs → P x
+each-has P (y ∷ xs) h (List·Memᴰ·head e) = subst P (sym e) (h .0)
+each-has P (y ∷ xs) h (List·Memᴰ·tail m) = each-has P xs (h .1) m
+
+-- a member passes: so some row does
+pub has-any : {A : Type 0} (f : A → Bool) {x : A} (xs : List A) → List·Memᴰ x xs → f x ≡ true → any f xs ≡ true
+unfolding any
+has-any f (y ∷ xs) (List·Memᴰ·head e) q = either-left (f y) (any f xs) (ap f (sym e) ∙ q)
+has-any f (y ∷ xs) (List·Memᴰ·tail m) q = either-right (f y) (any f xs) (has-any f xs m q)
+
+-- a test that says whether P holds: some row passes it exactly when P holds of some row
+pub any-exactly : {A : Type 0} {P : A → Type 0} (f : A → Bool) (xs : List A) → ((x : A) → (f x ≡ true) ↔ P x) → (any f xs ≡ true) ↔ Has P xs
+any-exactly f xs g = (
+  λ e. let r = any-row f (λ x. List·Memᴰ x xs) xs e (members xs) in (r .row, r .has, g (r .row) .0 (r .passes)),
+  λ h. has-any f xs (h .1) (g (h .0) .1 (h .2)),
+)
 
 -- ROWS ONE AFTER THE OTHER
 

@@ -1,7 +1,7 @@
 -- Rounding up; sums, maxima and tests over the rows of a list.
 use Prim.Native.Nat.{ℕ, _+_, _-_, _/_, max}
 use mathlib.Core.Bool.{Bool, true, false, _&&_, _||_}
-use mathlib.Core.List.{List, [], _∷_, _++_}
+use mathlib.Core.List.{List, [], _∷_, _++_, List·Memᴰ}
 
 -- t / p, rounded up
 unfoldable pub up : ℕ → ℕ → ℕ
@@ -53,7 +53,16 @@ Chain R [] = Unit {0}
 Chain R (x ∷ []) = Unit {0}
 Chain R (x ∷ y ∷ xs) = R x y × Chain R (y ∷ xs)
 
+-- every row stands in R to each that follows
+abbrev pub Pairs : {A : Type 0} → (A → A → Type 0) → List A → Type 0
+Pairs R [] = Unit {0}
+Pairs R (x ∷ xs) = Each (R x) xs × Pairs R xs
+
 -- there is a row
 abbrev pub Some : {A : Type 0} → List A → Type 0
 Some [] = ⊥
 Some (x ∷ xs) = Unit {0}
+
+-- P holds of some row
+abbrev pub Has : {A : Type 0} → (A → Type 0) → List A → Type 0
+Has {A} P xs = (x : A) × List·Memᴰ x xs × P x

@@ -12,7 +12,7 @@ use Rattle.laws.specs.SumLaws.{each-map}
 use Rattle.plan.specs.Limits.{lf}
 use Rattle.plan.specs.Line.{Item, Kind}
 use Rattle.plan.specs.Plan.{Plan}
-use Rattle.plan.specs.Lookup.{isVcpuOf, reaches}
+use Rattle.plan.specs.Declares.{VcpuOf, Reach}
 use Rattle.plan.specs.Text.{itemsOf, textOf, text}
 use Rattle.plan.specs.Rules.{Known, start, follows, phase, learn}
 use Rattle.plan.specs.Reading.{Judge, Verdict, Faultless, FirstBad, judge, Passes, rules, Accepts, answer, readingBy, reading}
@@ -92,7 +92,7 @@ text-once p q h k e = cc (text-read p h, text-read q k, ap reading e)
 -- every task's VCPU is declared and its section's guest's, and every lock's mutex is local to that VCPU or a global one opened to that guest
 abbrev pub Addressed : Plan → Type 0
 Addressed p =
-    Each (λ s. Each (λ k. (isVcpuOf (p .vcpus) (s .guest) (k .v) ≡ true) × Each (λ l. reaches (p .mutexes) (p .opens) (s .guest) (k .v) (l .m) ≡ true) (k .locks)) (s .tasks)) (p .sections)
+    Each (λ s. Each (λ k. VcpuOf (p .vcpus) (s .guest) (k .v) × Each (λ l. Reach (p .mutexes) (p .opens) (s .guest) (k .v) (l .m)) (k .locks)) (s .tasks)) (p .sections)
 
 pub valid-addressed : (p : Plan) → Valid p → Addressed p
 valid-addressed p h =

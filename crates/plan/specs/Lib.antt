@@ -2,6 +2,7 @@ pub mod Limits
 pub mod Refusals
 pub mod Plan
 pub mod Lookup
+pub mod Declares
 pub mod Line
 pub mod Text
 pub mod Valid

@@ -12,13 +12,13 @@ use Rattle.plan.specs.Limits.{maxGuest, maxM, maxV, maxN, maxPeriod, max
 use Rattle.plan.specs.Refusals.{Refusal, Clear, unless}
 use Rattle.plan.specs.Line.{shape, written, VcpuLine, OpenLine, GuestLine, TaskLine, RunLine, LockLine, EndLine}
 use Rattle.plan.specs.Plan.{Vcpu, Owner, Global, Local, Open}
-use Rattle.plan.specs.Lookup.{isVcpuOf, hasGuest, reaches}
+use Rattle.plan.specs.Declares.{VcpuOf, SomeVcpuOf, Reach}
 use Rattle.plan.specs.Text.{item, vcpuItem, ownedItem, openItem, runItem}
 use Rattle.plan.specs.Rules.{Known, within, follows, rule, testsOf, rises, vcpuFits, lastV, lastM, lastOpen}
 use Rattle.plan.specs.Reading.{rules, fault}
 use Rattle.plan.specs.Valid.{In, PairRises, VcpuValid, MutexValid, OpenValid}
 use Rattle.plan.specs.JudgeLaws.{unless-clear, fault-clear}
-use Rattle.plan.specs.LookupLaws.{of-has, reach-has}
+use Rattle.plan.specs.LookupLaws.{declared-exactly, vcpu-of-exactly, guest-exactly, mutex-exactly, global-exactly, reach-exactly, of-declared, reach-declared}
 
 -- tests and what they say
 and-both : (a b : Bool) → ((a && b) ≡ true) ↔ ((a ≡ true) × (b ≡ true))
@@ -44,7 +44,7 @@ rises-pair a b c d = (
 unless-last : (b : Bool) (r : Refusal) → (unless b r Clear ≡ Clear) ↔ (b ≡ true)
 unless-last b r = (λ h. unless-clear b r Clear .0 h .0, λ h. unless-clear b r Clear .1 (h, refl))
 
-ruleset tests = (unless-last, unless-clear, and-true, and-both, leb-exactly, rises-pair)
+ruleset tests = (unless-last, unless-clear, and-true, and-both, leb-exactly, rises-pair, declared-exactly, vcpu-of-exactly, guest-exactly, mutex-exactly, global-exactly, reach-exactly)
 
 module _ (t : Known) where
   pub vcpu-clear : (r : Vcpu) → follows (t .phase) VcpuLine ≡ true → (fault rules t (vcpuItem r) ≡ Clear) ↔ (VcpuValid r × (lastV (t .vcpus) < r .v))
@@ -67,16 +67,16 @@ module _ (t : Known) where
 
   pub guest-clear :
       (g : ℕ) → follows (t .phase) GuestLine ≡ true →
-      (fault rules t (item GuestLine (g ∷ [])) ≡ Clear) ↔ (In g 1 maxGuest × (t .guest < g) × (hasGuest (t .vcpus) g ≡ true))
+      (fault rules t (item GuestLine (g ∷ [])) ≡ Clear) ↔ (In g 1 maxGuest × (t .guest < g) × SomeVcpuOf (t .vcpus) g)
   unfolding rule testsOf written shape
   guest-clear g f = simp (fault-clear rules t (item GuestLine (g ∷ [])) f, tests) (λ h. search arith, λ h. search arith)
 
   pub task-clear :
       (v n p : ℕ) → follows (t .phase) TaskLine ≡ true →
       (fault rules t (item TaskLine (v ∷ n ∷ p ∷ [])) ≡ Clear)
-      ↔ (In v 1 maxV × In n 1 maxN × In p 1 maxPeriod × PairRises (t .v) (t .n) v n × (isVcpuOf (t .vcpus) (t .guest) v ≡ true) × (t .tasks < maxTasks))
+      ↔ (In v 1 maxV × In n 1 maxN × In p 1 maxPeriod × PairRises (t .v) (t .n) v n × VcpuOf (t .vcpus) (t .guest) v × (t .tasks < maxTasks))
   unfolding rule testsOf written shape
-  task-clear v n p f = simp (fault-clear rules t (item TaskLine (v ∷ n ∷ p ∷ [])) f, tests) (λ h. search arith, λ h. search (of-has, arith))
+  task-clear v n p f = simp (fault-clear rules t (item TaskLine (v ∷ n ∷ p ∷ [])) f, tests) (λ h. search arith, λ h. search (of-declared, arith))
 
   pub run-clear : (x : ℕ) → follows (t .phase) RunLine ≡ true → (fault rules t (runItem x) ≡ Clear) ↔ In x 0 maxLength
   unfolding rule testsOf written shape
@@ -85,9 +85,9 @@ module _ (t : Known) where
   pub lock-clear :
       (m x : ℕ) → follows (t .phase) LockLine ≡ true →
       (fault rules t (item LockLine (m ∷ x ∷ [])) ≡ Clear)
-      ↔ (In m 1 maxM × In x 1 maxLength × (reaches (t .mutexes) (t .opens) (t .guest) (t .v) m ≡ true) × (t .locks < maxLocks))
+      ↔ (In m 1 maxM × In x 1 maxLength × Reach (t .mutexes) (t .opens) (t .guest) (t .v) m × (t .locks < maxLocks))
   unfolding rule testsOf written shape
-  lock-clear m x f = simp (fault-clear rules t (item LockLine (m ∷ x ∷ [])) f, tests) (λ h. search arith, λ h. search (reach-has, arith))
+  lock-clear m x f = simp (fault-clear rules t (item LockLine (m ∷ x ∷ [])) f, tests) (λ h. search arith, λ h. search (reach-declared, arith))
 
   pub end-clear : follows (t .phase) EndLine ≡ true → fault rules t (item EndLine []) ≡ Clear
   unfolding rule testsOf written shape

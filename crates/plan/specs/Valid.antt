@@ -3,18 +3,17 @@ use Prim.Native.Nat.{ℕ, _≤_, _<_}
 use mathlib.Core.Path.{_≡_}
 use mathlib.Core.Logic.{_⊎_}
 use mathlib.Core.List.{List}
-use mathlib.Core.Bool.{true}
 use lib.ListN.{length}
 use Rattle.laws.specs.Sums.{Each, Chain, Some}
 use Rattle.plan.specs.Limits.{maxV, maxGuest, maxCore, maxM, maxN, maxPeriod, maxLength, maxTasks, maxLocks}
 use Rattle.plan.specs.Plan.{Vcpu, Owner, Global, Local, Mutex, Open, Lock, Task, Section, Plan, tasksOf}
-use Rattle.plan.specs.Lookup.{hasVcpu, isVcpuOf, hasGuest, global, reaches}
+use Rattle.plan.specs.Declares.{Declared, VcpuOf, SomeVcpuOf, GlobalMutex, Reach}
 
 -- x is in the range lo to hi
 abbrev pub In : ℕ → ℕ → ℕ → Type 0
 In x lo hi = (lo ≤ x) × (x ≤ hi)
 
--- "Rising" is strict: of numbers, and of pairs
+-- "Rising" is strict: the pair (a, b) rises to (c, d)
 abbrev pub PairRises : ℕ → ℕ → ℕ → ℕ → Type 0
 PairRises a b c d = (a < c) ⊎ ((a ≡ c) × (b < d))
 
@@ -26,12 +25,12 @@ pub record VcpuValid (r : Vcpu) : Type 0 where
   pub period-in : In (r .period) 1 maxPeriod
   pub budget-in : In (r .budget) 1 (r .period)
 
--- a local mutex's VCPU is declared
+-- a local mutex's VCPU is in its range and declared
 abbrev pub OwnerValid : List Vcpu → Owner → Type 0
 OwnerValid vs Global = Unit {0}
-OwnerValid vs (Local v) = In v 1 maxV × (hasVcpu vs v ≡ true)
+OwnerValid vs (Local v) = In v 1 maxV × Declared vs v
 
--- m 1 to 32
+-- m 1 to 32, and its owner as above
 pub record MutexValid (vs : List Vcpu) (r : Mutex) : Type 0 where
   pub m-in : In (r .m) 1 maxM
   pub owned : OwnerValid vs (r .owner)
@@ -40,22 +39,22 @@ pub record MutexValid (vs : List Vcpu) (r : Mutex) : Type 0 where
 pub record OpenValid (vs : List Vcpu) (ms : List Mutex) (r : Open) : Type 0 where
   pub m-in : In (r .m) 1 maxM
   pub guest-in : In (r .guest) 1 maxGuest
-  pub is-global : global ms (r .m) ≡ true
-  pub has-vcpu : hasGuest vs (r .guest) ≡ true
+  pub is-global : GlobalMutex ms (r .m)
+  pub has-vcpu : SomeVcpuOf vs (r .guest)
 
 -- a lock of a task of VCPU v in guest g's section: lock 1 to 1,000,000, run 0 to 1,000,000, its mutex local to v or a global one opened to g
 pub record LockValid (ms : List Mutex) (os : List Open) (g v : ℕ) (l : Lock) : Type 0 where
   pub m-in : In (l .m) 1 maxM
   pub ticks-in : In (l .ticks) 1 maxLength
   pub after-in : In (l .after) 0 maxLength
-  pub within-reach : reaches ms os g v (l .m) ≡ true
+  pub within-reach : Reach ms os g v (l .m)
 
 -- a task in guest g's section: its VCPU is declared and is g's; at most 8 locks
 pub record TaskValid (vs : List Vcpu) (ms : List Mutex) (os : List Open) (g : ℕ) (k : Task) : Type 0 where
   pub v-in : In (k .v) 1 maxV
   pub n-in : In (k .n) 1 maxN
   pub period-in : In (k .period) 1 maxPeriod
-  pub own-vcpu : isVcpuOf vs g (k .v) ≡ true
+  pub own-vcpu : VcpuOf vs g (k .v)
   pub first-in : In (k .first) 0 maxLength
   pub few-locks : length (k .locks) ≤ maxLocks
   pub locks-valid : Each (LockValid ms os g (k .v)) (k .locks)
@@ -63,7 +62,7 @@ pub record TaskValid (vs : List Vcpu) (ms : List Mutex) (os : List Open) (g : �
 -- a section: its guest has a VCPU declared; one or more tasks, (v, n) rising
 pub record SectionValid (vs : List Vcpu) (ms : List Mutex) (os : List Open) (s : Section) : Type 0 where
   pub guest-in : In (s .guest) 1 maxGuest
-  pub has-vcpu : hasGuest vs (s .guest) ≡ true
+  pub has-vcpu : SomeVcpuOf vs (s .guest)
   pub some-task : Some (s .tasks)
   pub tasks-rise : Chain (λ j k. PairRises (j .v) (j .n) (k .v) (k .n)) (s .tasks)
   pub tasks-valid : Each (TaskValid vs ms os (s .guest)) (s .tasks)

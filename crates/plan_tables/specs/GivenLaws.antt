@@ -1,18 +1,18 @@
 -- Laws of `Given`: the plan that gives tables is the plan in them, it is one, and the test for 9 says whether there is one.
 use Prim.Native.Nat.{ℕ, _*_, _/_, _≤_, _<_}
 use mathlib.Core.Path.{_≡_, refl, ap, ap₂, sym, _∙_}
-use mathlib.Core.List.{List, [], _∷_, _++_}
-use mathlib.Core.Bool.{Bool, true, false, _&&_, _||_, or-false, false≢true}
+use mathlib.Core.List.{List, [], _∷_, _++_, List·Memᴰ}
+use mathlib.Core.Bool.{Bool, true, false, _&&_, false≢true}
 use mathlib.Core.Logic.{_↔_}
 use native.Mathlib.Omega.{arith}
 use native.Mathlib.Nat.{le-div-iff-mul-le}
-use borrow.Author.Tests.{eqb-true, eq-eqb, ne-eqb, leb-true, le-leb}
+use borrow.Author.Tests.{eq-eqb, ne-eqb, leb-true, le-leb}
 use lib.Dec.{eqb, leb}
 use lib.ListN.{length}
-use Rattle.laws.specs.BoolLaws.{both, both-left, both-right, miss-left, both-ways, both-exactly, leb-exactly}
+use Rattle.laws.specs.BoolLaws.{both, both-left, both-right, both-ways, both-exactly, leb-exactly}
 use Rattle.laws.specs.Choice.{if_then_else_}
-use Rattle.laws.specs.Sums.{first, any, all, flat, Each, Chain, Some}
-use Rattle.laws.specs.SumLaws.{first-in, first-out, each-all, each-map, each-flat}
+use Rattle.laws.specs.Sums.{all, flat, Each, Chain, Some}
+use Rattle.laws.specs.SumLaws.{each-all, each-map, each-flat}
 use Rattle.laws.specs.Rows.{rows}
 use Rattle.laws.specs.RowLaws.{rows-length, each-row, each-rows, all-found}
 use Rattle.plan.specs.Limits.{maxLocks}
@@ -20,12 +20,12 @@ use Rattle.plan.specs.declared.Fault.{Fault}
 use Rattle.plan.specs.declared.Fault.the-variants.{Clear, Bad}
 use Rattle.plan.specs.Line.{Item}
 use Rattle.plan.specs.Plan.{Vcpu, Owner, Global, Local, Task, Section, Plan, tasksOf}
-use Rattle.plan.specs.Lookup.{isVcpuOf}
+use Rattle.plan.specs.Declares.{VcpuOf}
 use Rattle.plan.specs.Valid.{OwnerValid, TaskValid, SectionValid, Valid}
 use Rattle.plan.specs.Text.{itemsOf}
 use Rattle.plan.specs.Rules.{start, vcpuOf}
 use Rattle.plan.specs.Reading.{Judge, fault, Passes, rules}
-use Rattle.plan.specs.ListLaws.{chain-rest, rising-above}
+use Rattle.plan.specs.ListLaws.{chain-rest, rising-above, rising-pairs, first-named}
 use Rattle.plan.specs.ValidLaws.{passes-valid, valid-passes}
 use Rattle.plan_tables.specs.Layout.{PlanRecord, Tables, vcpuWidth, mutexWidth, openWidth, taskWidth, vcpuCells, mutexCells, openCells, taskCells, over, cell, vcpuRow, mutexRow, openRow, lockRow, taskRow, filled, recordOf}
 use Rattle.plan_tables.specs.Given.{Gives, Given, guestFor, atop, sectionsOf, planIn, roomyBy, roomy, zeroRest, isClear, clean, isGiven, ifGiven}
@@ -51,34 +51,16 @@ unfolding sectionsOf
 tasks-sections vs [] = unfold tasksOf flat in refl
 tasks-sections vs (k ∷ ks) = atop-tasks (guestFor vs (k .v)) k (sectionsOf vs ks) ∙ ap (λ l. k ∷ l) (tasks-sections vs ks)
 
--- no row passes
-any-out : {A : Type 0} (q : A → Bool) (xs : List A) → Each (λ x. q x ≡ false) xs → any q xs ≡ false
-unfolding any
-any-out q [] h = refl
-any-out q (x ∷ xs) h = rw (h .0) (any-out q xs (h .1))
+-- a VCPU's guest is that of its row, where v rises
+guest-at : (vs : List Vcpu) (r : Vcpu) → Chain (λ r s. r .v < s .v) vs → List·Memᴰ r vs → guestFor vs (r .v) ≡ r .guest
+unfolding guestFor
+guest-at vs r c m =
+    ap (λ s. s .guest)
+    (first-named (λ s. eqb (s .v) (r .v)) (vcpuOf []) (λ r s. r .v < s .v) r vs (rising-pairs (λ r. r .v) vs c)
+    (λ y l. ne-eqb (y .v) (r .v) (λ z. omega arith)) (eq-eqb (r .v) (r .v) refl) m)
 
-abbrev hit : ℕ → ℕ → Vcpu → Bool
-hit g v r = eqb (r .v) v && eqb (r .guest) g
-
--- the guest of a VCPU is one where v rises
-guest-for : (vs : List Vcpu) (g v : ℕ) → Chain (λ r s. r .v < s .v) vs → isVcpuOf vs g v ≡ true → guestFor vs v ≡ g
-unfolding guestFor isVcpuOf any
-guest-for [] g v c h = absurd (false≢true h)
-guest-for (x ∷ xs) g v c h = go (eqb (x .v) v) refl h (guest-for xs g v (chain-rest (λ r s. r .v < s .v) x xs c))
-  where
-    none : x .v ≡ v → any (hit g v) xs ≡ false
-    none e =
-        any-out (hit g v) xs
-        (each-map xs (λ r l. miss-left (eqb (r .v) v) _ (ne-eqb (r .v) v (λ z. let d : x .v < r .v = l in omega arith))) (rising-above (λ r. r .v) x xs c))
-
-    go :
-        (b : Bool) → eqb (x .v) v ≡ b → ((b && eqb (x .guest) g) || any (hit g v) xs) ≡ true →
-        (any (hit g v) xs ≡ true → first (λ r. eqb (r .v) v) (vcpuOf []) xs .guest ≡ g) →
-        first (λ r. eqb (r .v) v) (vcpuOf []) (x ∷ xs) .guest ≡ g
-    go true e h ih =
-        rw (first-in (λ r. eqb (r .v) v) (vcpuOf []) x xs e)
-        (eqb-true _ _ (sym (or-false _) ∙ rw (none (eqb-true _ _ e)) at h))
-    go false e h ih = rw (first-out (λ r. eqb (r .v) v) (vcpuOf []) x xs e) (ih h)
+guest-for : (vs : List Vcpu) (g v : ℕ) → Chain (λ r s. r .v < s .v) vs → VcpuOf vs g v → guestFor vs v ≡ g
+guest-for vs g v c h = ap (guestFor vs) (sym (h .2 .0)) ∙ guest-at vs (h .0) c (h .1) ∙ h .2 .1
 
 -- a task above tasks of its guest, and above those of a later one
 atop-same : (g : ℕ) (k : Task) (ks : List Task) (ss : List Section) →
