@@ -8,3 +8,5 @@ pub mod Demands
 pub mod Tabled
 pub mod Parts
 pub mod PartLaws
+pub mod Second
+pub mod NamedLaws
