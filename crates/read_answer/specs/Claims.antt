@@ -1,6 +1,6 @@
 -- What a reading into tables answers, and leaves, in the words of the documents.
 use Prim.Native.Nat.{ℕ, _*_}
-use mathlib.Core.Path.{_≡_, refl, ap, sym, _∙_}
+use mathlib.Core.Path.{_≡_, refl, ap, sym, _∙_, subst}
 use mathlib.Core.List.{List, _++_}
 use mathlib.Core.Logic.{_↔_, _⊎_, inl, inr, ⊎-elim}
 use mathlib.Core.Bool.{Bool, true, false}
@@ -21,8 +21,8 @@ use Rattle.plan_tables.specs.declared.PlanRecord.{PlanRecord}
 use Rattle.plan_tables.specs.Layout.{Tables, vcpuWidth, mutexWidth, openWidth, taskWidth, vcpuCells, mutexCells, openCells, taskCells, over, filled, recordOf}
 use Rattle.plan_tables.specs.FlatLaws.{each-of, flat-length}
 use Rattle.plan_tables.specs.LayoutLaws.{task-wide}
-use Rattle.plan_tables.specs.Given.{Gives, roomy, isGiven}
-use Rattle.plan_tables.specs.GivenLaws.{Roomy, roomy-exactly, valid-few, given-exactly}
+use Rattle.plan_tables.specs.Given.{Gives, roomy, isGiven, planIn}
+use Rattle.plan_tables.specs.GivenLaws.{Roomy, roomy-exactly, valid-few, given-exactly, given-plan, tested-exactly}
 use Rattle.read_answer.specs.Into.{PlanAnswer, Accepted, Refused, answerInto, planAnswer, tablesAfter}
 use Rattle.read_answer.specs.RoomLaws.{never-room}
 use Rattle.read_answer.specs.JudgedLaws.{after-filled, after-kept, after-refused}
@@ -188,3 +188,13 @@ module _ (s : List ℕ) (t : Tables) where
   -- and so passes the test for 9
   pub accepted-given : (r : PlanRecord) → planAnswer s t ≡ Accepted r → isGiven r (tablesAfter s t) ≡ true
   accepted-given r h = let w = accepted-gives r h in given-exactly r (tablesAfter s t) .1 (w .0, w .2, w .3)
+
+-- tables that pass the test for 9 are what an accepted call leaves: the text of the plan in them, read into them, is accepted and changes nothing
+pub given-left : (r : PlanRecord) (t : Tables) → isGiven r t ≡ true → (planAnswer (text (planIn r t)) t ≡ Accepted r) × (tablesAfter (text (planIn r t)) t ≡ t)
+given-left r t h =
+    let p : Plan = planIn r t in
+    let g = given-plan r t h in
+    let room : Roomy (recordOf p) t = subst (λ q. Roomy q t) (g .1 .recorded) (tested-exactly r t .0 h .room) in (
+      accepted-with-room (text p) t r .1 (p, g .0, refl, room, g .1 .recorded),
+      after-filled (text p) t p (text-read p (g .0)) (roomy-exactly (recordOf p) t .1 room) ∙ sym (g .1 .held),
+    )

@@ -218,10 +218,12 @@ module _ (s vt mt ot : List ℕ) (ks : List Task) where
       go (Accepted r) e = accepted-rows r e
       go (Refused x l) e = refused-rows x l e
 
-  -- the tables after an accepted plan pass the test for 9
+  -- so that the tables with these records are those that reading leaves
+  pub sheets-left : tablesOf (tablesAfter s into .vcpus) (tablesAfter s into .mutexes) (tablesAfter s into .opens) (sheetsAfter s vt mt ot ks) ≡ tablesAfter s into
+  sheets-left = ap (lent (tablesAfter s into .vcpus) (tablesAfter s into .mutexes) (tablesAfter s into .opens)) sheets-rows
+
+  -- and after an accepted plan they pass the test for 9
   pub sheets-given :
       (r : PlanRecord) → planAnswer s into ≡ Accepted r →
       isGiven r (tablesOf (tablesAfter s into .vcpus) (tablesAfter s into .mutexes) (tablesAfter s into .opens) (sheetsAfter s vt mt ot ks)) ≡ true
-  sheets-given r e =
-      ap (λ u. isGiven r (lent (tablesAfter s into .vcpus) (tablesAfter s into .mutexes) (tablesAfter s into .opens) u)) sheets-rows
-      ∙ accepted-given s into r e
+  sheets-given r e = ap (isGiven r) sheets-left ∙ accepted-given s into r e
