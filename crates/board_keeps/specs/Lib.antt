@@ -7,6 +7,7 @@ pub mod Nexts
 pub mod Settle
 pub mod Faults
 pub mod SettleEvents
+pub mod Marks
 pub mod Moves
 pub mod Keeps
 pub mod Leaves
@@ -18,4 +19,5 @@ pub mod LedgerLaws
 pub mod Locality
 pub mod FairLaws
 pub mod NotNine
+pub mod Printed
 pub mod Lacking

@@ -76,7 +76,7 @@ due-stops F b v r =
     both (underP (F .policy)) _ (r .policy)
     (both (F .hasVcpu v) _ (r .vcpu) (both (eqb (leftOf b v) 0) _ (eq-eqb (leftOf b v) 0 (r .left)) (ap not (r .holds-none))))
 
--- a mark that was not due is not due where the VCPU has the budget that it had and holds the global mutexes that it held
+-- a mark that was not due is not due where the VCPU has the budget that it had, and holds a global mutex if it held one
 pub still-not-due : (F : Facts) (b b′ : Board) (v : ℕ) → leftOf b′ v ≡ leftOf b v → (GlobalHold F (holderOf b) v → GlobalHold F (holderOf b′) v) →
     mustStop F b v ≡ false → mustStop F b′ v ≡ false
 still-not-due F b b′ v l h e =
@@ -97,6 +97,10 @@ settled-stopped F b v i =
     let up : suc (v - 1) ≡ v = let h = i .from in omega arith in
     list-at maxV (v - 1) (λ w. isStopped b w || mustStop F b w) false (let h = i .from in let k = i .to in omega arith) ∙ ap (λ w. isStopped b w || mustStop F b w) up
 
+-- a mark stays where it is not both due and lacking
+pub mark-stays : (F : Facts) (b : Board) (v : ℕ) → (isStopped b v ≡ false → mustStop F b v ≡ false) → (isStopped b v || mustStop F b v) ≡ isStopped b v
+mark-stays F b v h = ⊎-elim (λ e. rw e) (λ e. rw e (h e)) (bool-cases (isStopped b v))
+
 -- the board in which v alone is settled
 abbrev pub settledAt : Facts → Board → ℕ → Board
 settledAt F b v = withStopped b (set (b .stopped) (v - 1) (isStopped b v || mustStop F b v))
@@ -107,9 +111,6 @@ pub settle-one : (F : Facts) (b : Board) (v : ℕ) → Shaped b → InV v →
 unfolding settled
 settle-one F b v s i h = ap (withStopped b) (ext-getD false _ _ long at-each)
   where
-    kept : (w : ℕ) → InV w → (w ≡ v → ⊥) → (isStopped b w || mustStop F b w) ≡ isStopped b w
-    kept w j ne = ⊎-elim (λ e. rw e) (λ e. rw e (h w j ne e)) (bool-cases (isStopped b w))
-
     long : length (listTo maxV (λ w. isStopped b w || mustStop F b w)) ≡ length (set (b .stopped) (v - 1) (isStopped b v || mustStop F b v))
     long = list-length maxV _ ∙ sym (length-set (b .stopped) (v - 1) _ ∙ s .stopped-long)
 
@@ -117,7 +118,7 @@ settle-one F b v s i h = ap (withStopped b) (ext-getD false _ _ long at-each)
     at-w w j =
         ⊎-elim
         (λ e. rw e (sym (getD-set-same (b .stopped) (v - 1) _ false (let p = i .from in let q = i .to in let r = s .stopped-long in omega arith))))
-        (λ ne. kept w j ne ∙ sym (getD-set-other (b .stopped) (v - 1) (w - 1) _ false (λ q. ne (let x = i .from in let y = j .from in omega arith))))
+        (λ ne. mark-stays F b w (h w j ne) ∙ sym (getD-set-other (b .stopped) (v - 1) (w - 1) _ false (λ q. ne (let x = i .from in let y = j .from in omega arith))))
         (same-or-not w v)
 
     at-each : (k : ℕ) → k < length (listTo maxV (λ w. isStopped b w || mustStop F b w)) →
