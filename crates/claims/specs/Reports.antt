@@ -1,16 +1,17 @@
 -- Demand 3 (Reported) of what the calls answer (answers_rows/Asked).
-use Prim.Native.Nat.{ℕ, _≤_}
+use Prim.Native.Nat.{ℕ}
 use mathlib.Core.Path.{_≡_, refl, ap, sym, _∙_}
 use mathlib.Core.Bool.{Bool, true, false, false≢true, true≢false}
-use mathlib.Core.List.{List, [], _∷_, List·Memᴰ, List·Memᴰ·head, List·Memᴰ·tail}
+use mathlib.Core.List.{List·Memᴰ}
 use mathlib.Core.Logic.{_↔_}
 use mathlib.Core.Option.{some}
 use native.Mathlib.Omega.{arith}
 use borrow.Author.Tests.{eqb-true, eq-eqb, ltb-true, lt-ltb}
 use lib.Dec.{eqb}
-use Rattle.laws.specs.BoolLaws.{both, both-left, both-right, either-left, either-right}
-use Rattle.laws.specs.Sums.{any, Each}
-use Rattle.laws.specs.SumLaws.{any-row, each-map}
+use Rattle.laws.specs.BoolLaws.{both, both-left, both-right, both-exactly}
+use Rattle.laws.specs.Choice.{when}
+use Rattle.laws.specs.Sums.{sum}
+use Rattle.laws.specs.SumLaws.{any-exactly, has-any, each-map, members, sum-rises-on}
 use Rattle.search.specs.declared.Answer.{Answer}
 use Rattle.search.specs.declared.Answer.the-variants.{Fits, Late}
 use Rattle.search.specs.Search.{window, solve}
@@ -19,21 +20,23 @@ use Rattle.plan.specs.declared.Refusal.{Refusal}
 use Rattle.plan.specs.declared.Refusal.the-variants.{Foreign, Unknown}
 use Rattle.plan.specs.declared.Lock.{Lock}
 use Rattle.plan.specs.Plan.{Vcpu, Task}
+use Rattle.plan.specs.Declares.{GlobalMutex}
 use Rattle.plan.specs.Lookup.{hasVcpu}
+use Rattle.plan.specs.LookupLaws.{global-exactly}
 use Rattle.plan_tables.specs.declared.PlanRecord.{PlanRecord}
 use Rattle.plan_tables.specs.Layout.{Tables}
 use Rattle.plan_tables.specs.Given.{isGiven}
 use Rattle.figures.specs.System.{System}
-use Rattle.figures.specs.Figures.{vcpuAt, higherTask, vcpuDemand, waitDemand, lengths, taskDemand, response, isSection}
+use Rattle.figures.specs.Figures.{vcpuAt, higherTask, lengths, taskDemand, response, isSection}
 use Rattle.figures.specs.Named.{hasTask, taskAt, lockAt, hasSection}
 use Rattle.figures.specs.Demands.{vcpu-demand, wait-demand, task-demand}
 use Rattle.figures.specs.declared.TaskAnswer.{TaskAnswer}
 use Rattle.figures.specs.declared.TaskAnswer.the-variants.{Searched, NoWait, Held}
-use Rattle.figures.specs.Answers.{vcpuAnswer, waitAnswer, taskAnswer, isLate, remoteWaits, lacksWait, isHeld}
+use Rattle.figures.specs.Answers.{vcpuAnswer, waitAnswer, taskAnswer, ticksOf, isLate, remoteWaits, lacksWait, isHeld}
 use Rattle.answers_rows.specs.declared.RowAnswer.the-variants.{Row, NoRow}
 use Rattle.answers_rows.specs.declared.TaskRowAnswer.the-variants.{TaskRow, NoTaskRow}
 use Rattle.answers_rows.specs.declared.FigureAnswer.the-variants.{Figure, NoFigure}
-use Rattle.claims.specs.Reported.{systemFrom, Reports, NoNumber, HeldUp}
+use Rattle.claims.specs.Reported.{systemFrom, HasNumber, Reports, NoNumber, HeldUp, VcpuReported, WaitReported, TaskReported}
 use Rattle.answers_rows.specs.Asked.{hasPlace, vcpuRowOf, waitRowOf, taskRowOf, responseRowOf, vcpuAsked, waitAsked, taskAsked, responseAsked}
 
 -- THE SEARCHES REPORT SO
@@ -41,74 +44,83 @@ fits-of : (a : Answer) (w : ℕ) → window a ≡ some w → (n : ℕ) × (a ≡
 fits-of (Fits v n) w e = (n, cc)
 fits-of (Late n) w e = absurd (let z : _≡_ {A = ℕ} 0 1 = cc in omega arith)
 
-answered-reports : {d : ℕ → ℕ} {s l : ℕ} {a : Answer} → Answered d s l a → Reports d l a
+answered-reports : {d : ℕ → ℕ} {s l : ℕ} {a : Answer} → Answered d s l a → Reports d s l a
 answered-reports {a} h = record {
   exactly = (
     λ q. h .exactly .1 (q .0, ap window (q .2)),
     λ q. let x = h .exactly .0 q in let y = fits-of a (x .0) (x .1) in (x .0, y .0, y .1),
   );
   smallest = λ w n e. h .least w (ap window e);
+  counted = h .counted;
+  no-round = h .no-round;
+  few = h .few;
 }
 
-pub vcpu-answer-reports : (s : System) (x : Vcpu) → Reports (vcpuDemand s x) (x .period) (vcpuAnswer s x)
+pub vcpu-answer-reports : (s : System) (x : Vcpu) → VcpuReported s x (vcpuAnswer s x)
 unfolding vcpuAnswer
 vcpu-answer-reports s x = answered-reports (solve-answers (x .period) (vcpu-demand s x))
 
-pub wait-answer-reports : (s : System) (k : Task) (l : Lock) → Reports (waitDemand s (k .v) (l .m)) (k .period) (waitAnswer s k l)
+pub wait-answer-reports : (s : System) (k : Task) (l : Lock) → WaitReported s k l (waitAnswer s k l)
 unfolding waitAnswer
 wait-answer-reports s k l = answered-reports (solve-answers (k .period) (wait-demand s (k .v) (l .m)))
 
 pub task-search-reports :
-    (s : System) (waits : Task → ℕ) (k : Task) → Reports (taskDemand s waits k) (k .period) (solve (taskDemand s waits k) (lengths k) (k .period))
+    (s : System) (waits : Task → ℕ) (k : Task) → Reports (taskDemand s waits k) (lengths k) (k .period) (solve (taskDemand s waits k) (lengths k) (k .period))
 task-search-reports s waits k = answered-reports (solve-answers (k .period) (task-demand s waits k))
 
 -- an answer is late exactly when there is no such number
-reports-late : {d : ℕ → ℕ} {l : ℕ} (a : Answer) → Reports d l a → (isLate a ≡ true) ↔ ((t : ℕ) → t ≤ l → ¬ (d t ≤ t))
-reports-late (Fits w n) h =
-    (λ e. absurd (false≢true e), λ q. let x = h .smallest w n refl in absurd (q w (x .0) (x .1)))
-reports-late (Late n) h =
-    (λ e t l p. let x = h .exactly .1 (t, l, p) in let y = x .2 in let z : _≡_ {A = ℕ} 0 1 = cc in omega arith, λ q. refl)
+reports-late : {d : ℕ → ℕ} {s l : ℕ} (a : Answer) → Reports d s l a → (isLate a ≡ true) ↔ (¬ HasNumber d l)
+reports-late (Fits w n) h = (λ e. absurd (false≢true e), λ q. absurd (q (h .exactly .0 (w, n, refl))))
+reports-late (Late n) h = (λ e t. let x = h .exactly .1 t in let y = x .2 in let z : _≡_ {A = ℕ} 0 1 = cc in omega arith, λ q. refl)
+
+-- two reports of one demand have the same ticks
+reports-same : {d : ℕ → ℕ} {s l : ℕ} (a : Answer) (w n : ℕ) → Reports d s l a → Reports d s l (Fits w n) → ticksOf a ≡ w
+reports-same (Fits v m) w n h k =
+    let x = h .smallest v m refl in
+    let y = k .smallest w n refl in
+    let p = x .2 w (y .0) (y .1) in
+    let q = y .2 v (x .0) (x .1) in
+    omega arith
+reports-same (Late m) w n h k = let x = h .exactly .1 (k .exactly .0 (w, n, refl)) in let y = x .2 in absurd (let z : _≡_ {A = ℕ} 0 1 = cc in omega arith)
 
 -- WAITS WITHOUT A NUMBER
--- some test passes exactly when a member passes it
-module _ {A : Type 0} (q : A → Bool) where
-  -- every row of xs is a member of it
-  members : (xs : List A) → Each (λ x. List·Memᴰ x xs) xs
-  members [] = tt
-  members (x ∷ xs) = (List·Memᴰ·head refl, each-map xs (λ y m. List·Memᴰ·tail m) (members xs))
-
-  any-some : (xs : List A) → any q xs ≡ true → (x : A) × List·Memᴰ x xs × (q x ≡ true)
-  any-some xs e = let r = any-row q (λ x. List·Memᴰ x xs) xs e (members xs) in (r .row, r .has, r .passes)
-
-  some-any : {x : A} (xs : List A) → List·Memᴰ x xs → q x ≡ true → any q xs ≡ true
-  unfolding any
-  some-any (y ∷ xs) (List·Memᴰ·head e) f = either-left (q y) (any q xs) (ap q (sym e) ∙ f)
-  some-any (y ∷ xs) (List·Memᴰ·tail m) f = either-right (q y) (any q xs) (some-any xs m f)
-
 pub lacks-exactly : (s : System) (k : Task) → (lacksWait s k ≡ true) ↔ NoNumber s k
 unfolding lacksWait
-lacks-exactly s k = (
-  λ e.
-      let x = any-some _ (k .locks) e in
-      let l = x .0 in
-      let g = isSection s l in
-      (l, x .1, both-left g _ (x .2), reports-late (waitAnswer s k l) (wait-answer-reports s k l) .0 (both-right g _ (x .2))),
-  λ q.
-      let l = q .0 in
-      some-any _ (k .locks) (q .1) (both _ _ (q .2) (reports-late (waitAnswer s k l) (wait-answer-reports s k l) .1 (q .3))),
-)
+lacks-exactly s k =
+    let e = any-exactly _ (k .locks) (λ l. both-exactly (global-exactly (s .mutexes) (l .m)) (reports-late (waitAnswer s k l) (wait-answer-reports s k l))) in (
+      λ q. let x = e .0 q in (x .0, x .1, x .2 .0, x .2 .1),
+      λ q. e .1 (q .0, q .1, (q .2, q .3)),
+    )
 
 pub held-exactly : (s : System) (k : Task) → (isHeld s k ≡ true) ↔ HeldUp s k
 unfolding isHeld
 held-exactly s k = (
   λ e.
-      let x = any-some _ (s .tasks) e in
+      let x = any-exactly _ (s .tasks) (λ l. (λ q. q, λ q. q)) .0 e in
       let h = x .0 in
       let a = both-left (higherTask k h) _ (x .2) in
       (h, x .1, eqb-true _ _ (both-left (eqb (h .v) (k .v)) _ a), ltb-true _ _ (both-right (eqb (h .v) (k .v)) _ a), lacks-exactly s h .0 (both-right (higherTask k h) _ (x .2))),
   λ q.
-      some-any _ (s .tasks) (q .1) (both _ _ (both _ _ (eq-eqb _ _ (q .2)) (lt-ltb _ _ (q .3))) (lacks-exactly s (q .0) .1 (q .4))),
+      has-any _ (s .tasks) (q .1) (both _ _ (both _ _ (eq-eqb _ _ (q .2)) (lt-ltb _ _ (q .3))) (lacks-exactly s (q .0) .1 (q .4))),
 )
+
+-- A TASK'S REMOTE WAITS are the numbers reported for its waits, one for each of its global sections, added up
+pub remote-waits-reported :
+    (s : System) (k : Task) (w : Lock → ℕ) →
+    ((l : Lock) → List·Memᴰ l (k .locks) → GlobalMutex (s .mutexes) (l .m) → (n : ℕ) × WaitReported s k l (Fits (w l) n)) →
+    remoteWaits s k ≡ sum (λ l. when (isSection s l) (w l)) (k .locks)
+unfolding remoteWaits when
+remote-waits-reported s k w h =
+    let f : Lock → ℕ = λ l. when (isSection s l) (ticksOf (waitAnswer s k l)) in
+    let g : Lock → ℕ = λ l. when (isSection s l) (w l) in
+    let same = each-map (k .locks) (λ l m. at l m (isSection s l) refl) (members (k .locks)) in
+    let p = sum-rises-on f g (k .locks) (each-map (k .locks) (λ l e. omega (arith, e)) same) in
+    let q = sum-rises-on g f (k .locks) (each-map (k .locks) (λ l e. omega (arith, e)) same) in
+    omega arith
+  where
+    at : (l : Lock) → List·Memᴰ l (k .locks) → (b : Bool) → isSection s l ≡ b → when b (ticksOf (waitAnswer s k l)) ≡ when b (w l)
+    at l m true e = let x = h l m (global-exactly (s .mutexes) (l .m) .0 e) in reports-same (waitAnswer s k l) (w l) (x .0) (wait-answer-reports s k l) (x .1)
+    at l m false e = refl
 
 -- A CALL ANSWERS exactly when the tables are given and the row is there
 module _ {A : Type 0} (x un no : A) where
@@ -137,9 +149,7 @@ module _ (r : PlanRecord) (t : Tables) (v : ℕ) where
   vcpu-answered a e =
       let x = asked-yes _ _ _ _ _ (Row a) (not-row Unknown a) (not-row Foreign a) e in (x .0, x .1, let y = x .2 in cc)
 
-  pub vcpu-reports :
-      (a : Answer) → vcpuAsked r t v ≡ Row a →
-      Reports (vcpuDemand (systemFrom r t) (vcpuAt (systemFrom r t) v)) (vcpuAt (systemFrom r t) v .period) a
+  pub vcpu-reports : (a : Answer) → vcpuAsked r t v ≡ Row a → VcpuReported (systemFrom r t) (vcpuAt (systemFrom r t) v) a
   vcpu-reports a e = rw (← vcpu-answered a e .2) (vcpu-answer-reports (systemFrom r t) (vcpuAt (systemFrom r t) v))
 
   -- no faultless call is refused
@@ -161,9 +171,7 @@ module _ (r : PlanRecord) (t : Tables) (v n i : ℕ) where
       let x = asked-yes _ _ _ _ _ (Row a) (not-row Unknown a) (not-row Foreign a) e in (x .0, x .1, let y = x .2 in cc)
 
   pub wait-reports :
-      (a : Answer) → waitAsked r t v n i ≡ Row a →
-      Reports (waitDemand (systemFrom r t) (taskAt (systemFrom r t) v n .v) (lockAt (taskAt (systemFrom r t) v n) i .m))
-      (taskAt (systemFrom r t) v n .period) a
+      (a : Answer) → waitAsked r t v n i ≡ Row a → WaitReported (systemFrom r t) (taskAt (systemFrom r t) v n) (lockAt (taskAt (systemFrom r t) v n) i) a
   wait-reports a e =
       rw (← wait-answered a e .2)
       (wait-answer-reports (systemFrom r t) (taskAt (systemFrom r t) v n) (lockAt (taskAt (systemFrom r t) v n) i))
@@ -278,6 +286,14 @@ module _ (s : System) (k : Task) where
         λ q. x .1 (false-not (lacks-exactly s k) .1 (q .0), false-not (held-exactly s k) .1 (q .1), q .2),
       )
 
+  pub task-answer-reports : TaskReported s k (taskAnswer s k)
+  task-answer-reports = go (taskAnswer s k) refl
+    where
+      go : (a : TaskAnswer) → taskAnswer s k ≡ a → TaskReported s k a
+      go (Searched a) e = let x = answer-searched a .0 e in (x .0, x .1, rw (← x .2) (task-search-reports s (remoteWaits s) k))
+      go NoWait e = answer-nowait .0 e
+      go Held e = answer-held .0 e
+
 module _ (r : PlanRecord) (t : Tables) (v n : ℕ) where
   task-answered :
       (a : TaskAnswer) →
@@ -296,16 +312,10 @@ module _ (r : PlanRecord) (t : Tables) (v n : ℕ) where
     λ q. let a = taskAnswer (systemFrom r t) (taskAt (systemFrom r t) v n) in (a, task-answered a .1 (q .0, q .1, refl)),
   )
 
-  -- a task that is searched rests on no wait without a number
-  pub task-reports :
-      (a : Answer) → taskAsked r t v n ≡ TaskRow (Searched a) →
-      (¬ NoNumber (systemFrom r t) (taskAt (systemFrom r t) v n)) × (¬ HeldUp (systemFrom r t) (taskAt (systemFrom r t) v n))
-      × Reports (taskDemand (systemFrom r t) (remoteWaits (systemFrom r t)) (taskAt (systemFrom r t) v n))
-      (taskAt (systemFrom r t) v n .period) a
+  -- a task is searched, or named, as demand 3 says
+  pub task-reports : (a : TaskAnswer) → taskAsked r t v n ≡ TaskRow a → TaskReported (systemFrom r t) (taskAt (systemFrom r t) v n) a
   task-reports a e =
-      let k = taskAt (systemFrom r t) v n in
-      let x = answer-searched (systemFrom r t) k a .0 (task-answered (Searched a) .0 e .2) in
-      (x .0, x .1, rw (← x .2) (task-search-reports (systemFrom r t) (remoteWaits (systemFrom r t)) k))
+      rw (← task-answered a .0 e .2) (task-answer-reports (systemFrom r t) (taskAt (systemFrom r t) v n))
 
   -- it is searched exactly when it rests on none
   pub task-searched-exactly :
@@ -313,7 +323,7 @@ module _ (r : PlanRecord) (t : Tables) (v n : ℕ) where
       ↔ ((isGiven r t ≡ true) × (hasTask (systemFrom r t) v n ≡ true) × (¬ NoNumber (systemFrom r t) (taskAt (systemFrom r t) v n))
       × (¬ HeldUp (systemFrom r t) (taskAt (systemFrom r t) v n)))
   task-searched-exactly = (
-    λ q. let x = task-answered (Searched (q .0)) .0 (q .1) in let y = task-reports (q .0) (q .1) in (x .0, x .1, y .0, y .1),
+    λ q. let x = task-answered (Searched (q .0)) .0 (q .1) in let y = task-reports (Searched (q .0)) (q .1) in (x .0, x .1, y .0, y .1),
     λ q.
         let k = taskAt (systemFrom r t) v n in
         let a = solve (taskDemand (systemFrom r t) (remoteWaits (systemFrom r t)) k) (lengths k) (k .period) in
