@@ -138,20 +138,20 @@ byPolicy s = record {
 }
 
 -- THE THIRD PLAN, under P N: guest 1 has the higher VCPU, so that its tasks stand first
-abbrev first21 : Task
-first21 = record { v = 2; n = 1; period = 700; first = 0; locks = lock 2 4 0 ∷ lock 2 3 0 ∷ lock 1 2 0 ∷ [] }
+abbrev third21 : Task
+third21 = record { v = 2; n = 1; period = 700; first = 0; locks = lock 2 4 0 ∷ lock 2 3 0 ∷ lock 1 2 0 ∷ [] }
 
-abbrev first22 : Task
-first22 = record { v = 2; n = 2; period = 600; first = 0; locks = lock 2 5 0 ∷ [] }
+abbrev third22 : Task
+third22 = record { v = 2; n = 2; period = 600; first = 0; locks = lock 2 5 0 ∷ [] }
 
-abbrev first23 : Task
-first23 = record { v = 2; n = 3; period = 100; first = 1; locks = lock 1 2 0 ∷ [] }
+abbrev third23 : Task
+third23 = record { v = 2; n = 3; period = 100; first = 1; locks = lock 1 2 0 ∷ [] }
 
-abbrev first24 : Task
-first24 = record { v = 2; n = 4; period = 500; first = 0; locks = lock 2 1 0 ∷ lock 1 1 0 ∷ [] }
+abbrev third24 : Task
+third24 = record { v = 2; n = 4; period = 500; first = 0; locks = lock 2 1 0 ∷ lock 1 1 0 ∷ [] }
 
-abbrev first11 : Task
-first11 = record { v = 1; n = 1; period = 900; first = 0; locks = lock 1 5 0 ∷ [] }
+abbrev third11 : Task
+third11 = record { v = 1; n = 1; period = 900; first = 0; locks = lock 1 5 0 ∷ [] }
 
 abbrev pub third : Plan
 third =
@@ -161,7 +161,7 @@ third =
       vcpus = host 1 2 0 2 50 ∷ host 2 1 0 3 20 ∷ [];
       mutexes = record { m = 1; owner = Global } ∷ record { m = 2; owner = Local 2 } ∷ [];
       opens = record { m = 1; guest = 1 } ∷ record { m = 1; guest = 2 } ∷ [];
-      sections = record { guest = 1; tasks = first21 ∷ first22 ∷ first23 ∷ first24 ∷ [] } ∷ record { guest = 2; tasks = first11 ∷ [] } ∷ [];
+      sections = record { guest = 1; tasks = third21 ∷ third22 ∷ third23 ∷ third24 ∷ [] } ∷ record { guest = 2; tasks = third11 ∷ [] } ∷ [];
     }
 
 -- its figures and answers: by VCPU, by task, by global section in the order of the lines
@@ -174,10 +174,10 @@ pub record Third : Type 0 where
   pub tasks : List TaskAnswer
 
 abbrev eachOfThird : {A : Type 0} → (Task → A) → List A
-eachOfThird f = f first21 ∷ f first22 ∷ f first23 ∷ f first24 ∷ f first11 ∷ []
+eachOfThird f = f third21 ∷ f third22 ∷ f third23 ∷ f third24 ∷ f third11 ∷ []
 
 abbrev sectionsOfThird : {A : Type 0} → (Task → Lock → A) → List A
-sectionsOfThird f = f first21 (lock 1 2 0) ∷ f first23 (lock 1 2 0) ∷ f first24 (lock 1 1 0) ∷ f first11 (lock 1 5 0) ∷ []
+sectionsOfThird f = f third21 (lock 1 2 0) ∷ f third23 (lock 1 2 0) ∷ f third24 (lock 1 1 0) ∷ f third11 (lock 1 5 0) ∷ []
 
 abbrev thirdOf : System → Third
 thirdOf s = record {

@@ -37,6 +37,7 @@ use Rattle.records.specs.Sheet.{taskNums, sheetRows, tablesOf, noRows, taskOf, 
 use Rattle.records.specs.SheetLaws.{sheet-long, rows-long}
 use Rattle.records.specs.SaveLaws.{saved-none, task-same, nums-back}
 use Rattle.records_read.specs.After.{countOf, sheetsAfter, numsFor, ReadIn, ReadOut}
+use Rattle.records_read.specs.Kept.{sheets-kept}
 
 leb-same : (a b c : ℕ) → (a ≤ b → a ≤ c) → (a ≤ c → a ≤ b) → leb a b ≡ leb a c
 leb-same a b c f g = both-ways (leb a b) (leb a c) (λ e. le-leb a c (f (leb-true a b e))) (λ e. le-leb a b (g (leb-true a c e)))
@@ -206,17 +207,14 @@ module _ (s vt mt ot : List ℕ) (ks : List Task) where
       let k : r .tasks ≡ recordOf (w .0) .tasks = ap (λ x. x .tasks) (w .4) in
       saved-rows ks (tablesAfter s into .tasks) (r .tasks) (omega (arith, w .3 .tasks, sheet-long ks)) (g .room .tasks) (acceptance-leaves s into r e .tasks)
 
-  refused-rows : (x : Refusal) (l : ℕ) → planAnswer s into ≡ Refused x l → sheetRows (saved ks (tablesAfter s into .tasks) 0) ≡ tablesAfter s into .tasks
-  refused-rows x l e = ap sheetRows (sym (saved-none ks (tablesAfter s into .tasks))) ∙ sym (ap (λ u. u .tasks) (refusal-leaves s into x l e))
-
   -- the records after reading have the numbers that reading leaves in the rows they stood for
   pub sheets-rows : sheetRows (sheetsAfter s vt mt ot ks) ≡ tablesAfter s into .tasks
   unfolding sheetsAfter
   sheets-rows = go (planAnswer s into) refl
     where
-      go : (a : PlanAnswer) → planAnswer s into ≡ a → sheetRows (saved ks (tablesAfter s into .tasks) (countOf a)) ≡ tablesAfter s into .tasks
-      go (Accepted r) e = accepted-rows r e
-      go (Refused x l) e = refused-rows x l e
+      go : (a : PlanAnswer) → planAnswer s into ≡ a → sheetRows (sheetsAfter s vt mt ot ks) ≡ tablesAfter s into .tasks
+      go (Accepted r) e = ap (λ a. sheetRows (saved ks (tablesAfter s into .tasks) (countOf a))) e ∙ accepted-rows r e
+      go (Refused x l) e = ap sheetRows (sheets-kept s vt mt ot ks x l e) ∙ sym (ap (λ u. u .tasks) (refusal-leaves s into x l e))
 
   -- so that the tables with these records are those that reading leaves
   pub sheets-left : tablesOf (tablesAfter s into .vcpus) (tablesAfter s into .mutexes) (tablesAfter s into .opens) (sheetsAfter s vt mt ot ks) ≡ tablesAfter s into
