@@ -2,11 +2,12 @@
 use Prim.Native.Nat.{ℕ}
 use mathlib.Core.Path.{_≡_, sym, ap, _∙_}
 use mathlib.Core.Bool.{Bool, true, false, _&&_, not}
-use mathlib.Core.List.{List}
+use mathlib.Core.List.{List, [], _∷_}
 use mathlib.Core.Logic.{⊎-elim}
 use native.Mathlib.Omega.{arith}
 use lib.Dec.{leb}
 use Rattle.laws.specs.BoolLaws.{bool-cases}
+use Rattle.laws.specs.Sums.{Each}
 use Rattle.plan.specs.Limits.{maxTicks}
 use Rattle.plan.specs.declared.Refusal.{Refusal}
 use Rattle.plan.specs.declared.Refusal.the-variants.{Range, Foreign, Unknown, Unlisted, Asleep, Busy, NotHolder, Supply}
@@ -22,7 +23,7 @@ use Rattle.board_rules.specs.declared.BoardAnswer.{BoardAnswer}
 use Rattle.board_rules.specs.declared.BoardAnswer.the-variants.{Refused}
 use Rattle.board_rules.specs.declared.Outcome.{Outcome}
 use Rattle.board_rules.specs.Board.{fresh, isAsleep, isBusy, holds, supply, mayHave, asked, freed, freedGlobal, freedLocal, used, topped, shown, answered, askFault, freeFault, useFault, topFault, showFault, step, stepOn}
-use Rattle.board_rules.specs.Events.{boardAfter}
+use Rattle.board_rules.specs.Events.{answersBy, answers, boardAfter}
 use Rattle.board_keeps.specs.Fair.{Fair}
 use Rattle.board_keeps.specs.Runs.{run-step-on}
 
@@ -86,6 +87,12 @@ step-not-nine F b (Free v n m) =
 step-not-nine F b (Use v t) = answered-other b (useFault F b v t) (used F b v t) (use-other F b v t) (λ e. let z : _≡_ {A = ℕ} 0 1 = cc in omega arith)
 step-not-nine F b (Top v) = answered-other b (topFault F v) (topped F b v) (top-other F v) (λ e. let z : _≡_ {A = ℕ} 0 1 = cc in omega arith)
 step-not-nine F b (Show v n) = answered-other b (showFault F v n) (shown F b v n) (show-other F v n) (λ e. let z : _≡_ {A = ℕ} 0 1 = cc in omega arith)
+
+-- nor does a run of it
+pub answers-not-nine : (F : Facts) (b : Board) (es : List Event) → Each NotNine (answers F b es)
+unfolding answersBy
+answers-not-nine F b [] = tt
+answers-not-nine F b (e ∷ es) = (step-not-nine F b e, answers-not-nine F (step F b e .board) es)
 
 pub run-not-nine : {F : Facts} → Fair F → (es : List Event) (e : Event) → stepOn F (boardAfter F (fresh F) es) e .answer ≡ Refused Foreign → ⊥
 run-not-nine {F} f es e q = step-not-nine F (boardAfter F (fresh F) es) e (sym (ap (λ (o : Outcome). o .answer) (run-step-on f es e)) ∙ q)

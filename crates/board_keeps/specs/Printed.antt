@@ -12,26 +12,19 @@ use Rattle.plan.specs.Plan.{Plan}
 use Rattle.plan.specs.Valid.{Valid}
 use Rattle.figures.specs.System.{system}
 use Rattle.board_rules.specs.Facts.{Facts, factsOf}
-use Rattle.board_rules.specs.declared.Board.{Board}
-use Rattle.board_rules.specs.declared.Event.{Event}
 use Rattle.board_rules.specs.declared.BoardAnswer.{BoardAnswer}
 use Rattle.board_rules.specs.declared.BoardAnswer.the-variants.{Refused}
-use Rattle.board_rules.specs.Board.{leftOf, overOf, fresh, step}
-use Rattle.board_rules.specs.Events.{answers, answersBy, boardAfter}
+use Rattle.board_rules.specs.Board.{leftOf, overOf, fresh}
+use Rattle.board_rules.specs.Events.{answers, boardAfter}
 use Rattle.board_rules.specs.Printed.{LineSays, AnEvent, NoEvent, saidBy, eventsIn, answersIn, answersTo, printed}
 use Rattle.board_rules.specs.PrintedLaws.{OneOrTwo, says-one-or-two, answers-long, answers-read-back}
 use Rattle.board_keeps.specs.FairLaws.{fair}
-use Rattle.board_keeps.specs.NotNine.{NotNine, step-not-nine}
+use Rattle.board_keeps.specs.NotNine.{NotNine, answers-not-nine}
 use Rattle.board_keeps.specs.Tested.{answersOn, fresh-answers-on}
 use Rattle.board_keeps.specs.Ledger.{ledger}
 use Rattle.board_keeps.specs.LedgerLaws.{ledger-balance}
 
 -- NEVER 9
-
-answers-not-nine : (F : Facts) (b : Board) (es : List Event) → Each NotNine (answers F b es)
-unfolding answersBy
-answers-not-nine F b [] = tt
-answers-not-nine F b (e ∷ es) = (step-not-nine F b e, answers-not-nine F (step F b e .board) es)
 
 one-two-not-nine : (r : Refusal) → (r ≡ Shape) ⊎ (r ≡ Number) → NotNine (Refused r)
 one-two-not-nine r = ⊎-elim (λ h e. let z : _≡_ {A = ℕ} 0 1 = cc in omega arith) (λ h e. let z : _≡_ {A = ℕ} 0 1 = cc in omega arith)

@@ -2,7 +2,7 @@
 use Prim.Native.Nat.{ℕ}
 use mathlib.Core.Path.{_≡_, refl, _∙_}
 use mathlib.Core.Bool.{true, false, true≢false}
-use mathlib.Core.List.{List, [], _∷_}
+use mathlib.Core.List.{List}
 use mathlib.Core.Logic.{_⊎_, inl, inr, ⊎-elim, _↔_}
 use native.Mathlib.Omega.{arith}
 use Rattle.laws.specs.Sums.{Each}
@@ -18,7 +18,7 @@ use Rattle.board_rules.specs.declared.Board.{Board}
 use Rattle.board_rules.specs.declared.Event.{Event}
 use Rattle.board_rules.specs.declared.BoardAnswer.the-variants.{Refused}
 use Rattle.board_rules.specs.Board.{fresh, refused, good, step, stepOn}
-use Rattle.board_rules.specs.Events.{answersBy, answers}
+use Rattle.board_rules.specs.Events.{answers}
 use Rattle.board_rules.specs.EventLaws.{SameRun}
 use Rattle.board_keeps.specs.Fair.{Fair}
 use Rattle.board_keeps.specs.FairLaws.{fair}
@@ -26,7 +26,7 @@ use Rattle.board_keeps.specs.Shaped.{Shaped}
 use Rattle.board_keeps.specs.Leaves.{Leaves, step-leaves}
 use Rattle.board_keeps.specs.Keeps.{step-keeps}
 use Rattle.board_keeps.specs.Runs as runs
-use Rattle.board_keeps.specs.NotNine.{step-not-nine, NotNine}
+use Rattle.board_keeps.specs.NotNine.{step-not-nine, answers-not-nine, NotNine}
 use Rattle.board_keeps.specs.Tested.{fresh-run}
 use Rattle.board_tables.specs.Entered.{Made, NoBoard, factsFrom, noBoard, freshFor, stepFor, runFor}
 
@@ -46,11 +46,6 @@ step-on-nine F b e = ⊎-elim
     (λ h. rw h ((λ q. absurd (step-not-nine F b e q)), (λ q. absurd (true≢false q))))
     (λ h. rw h ((λ q. refl), (λ q. refl)))
     (bool-cases (good F b))
-
-answers-not-nine : (F : Facts) (b : Board) (es : List Event) → Each NotNine (answers F b es)
-unfolding answersBy
-answers-not-nine F b [] = tt
-answers-not-nine F b (e ∷ es) = (step-not-nine F b e, answers-not-nine F (step F b e .board) es)
 
 module _ (r : PlanRecord) (t : Tables) where
   -- TABLES THAT NO ACCEPTED PLAN GIVES
