@@ -1,0 +1,56 @@
+-- `board::main` meets its contract: what is handed on are bytes of the buffers. Assumes nothing.
+use borrow.Author.Needs.{needs}
+use Rattle.program.specs.ToldLaws.{handed-bytes}
+use Rattle.board.proofs.main.Statement.{statement}
+use Rattle.board.proofs.main.Tie as tie
+
+array-share-prefix-plan : tie.Need-array-share-prefix-plan
+array-share-prefix-plan c =
+    let k = c .before .before .before .before .before .before .before .before .k .given in
+    let r = c .before .before .before .before .before .before .before .before .before .before .before .read-file in
+    handed-bytes (k .0 .0) (r .last .1 .0) (k .1) (r .ensures) .0
+
+slice-aggregate-board-in : tie.Need-slice-aggregate-board-in
+slice-aggregate-board-in c =
+    let k = c .before .before .before .before .before .before .before .before .before .k .given in
+    let r = c .before .before .before .before .before .before .before .before .before .before .before .before .read-file in
+    handed-bytes (k .0 .0) (r .last .1 .0) (k .1) (r .ensures) .1
+
+array-share-prefix-src : tie.Need-array-share-prefix-src
+array-share-prefix-src c =
+    let n = c .before .before .n .given in
+    let r = c .before .before .before .before .before .read-open in
+    handed-bytes (n .0 .0) (r .last .1 .1 .0) (n .1) (r .ensures) .0
+
+slice-aggregate-board-in-2 : tie.Need-slice-aggregate-board-in-2
+slice-aggregate-board-in-2 c =
+    let n = c .before .before .before .n .given in
+    let r = c .before .before .before .before .before .before .read-open in
+    handed-bytes (n .0 .0) (r .last .1 .1 .0) (n .1) (r .ensures) .1
+
+pub main-spec : {M : Type 1} → statement M
+main-spec =
+    tie.close
+    (tie.spec
+    (λ c. search needs)
+    (λ c. search needs)
+    (λ c κs. search needs)
+    (λ c. search needs)
+    (λ c. search needs)
+    (λ c. search needs)
+    (λ c. search needs)
+    (λ c. search needs)
+    (λ c κs. search needs)
+    (λ c. search needs)
+    (λ c. search needs)
+    (λ c. search needs)
+    array-share-prefix-plan
+    slice-aggregate-board-in
+    array-share-prefix-src
+    slice-aggregate-board-in-2
+    (λ c. search needs)
+    (λ c κs. search needs)
+    (λ c. search needs)
+    (λ c. search needs)
+    (λ c κs. search needs)
+    (λ c. search needs))

@@ -1,0 +1,71 @@
+-- Laws of Told, over the bits by which code holds a number with a sign.
+use Prim.Native.Nat.{ℕ, _+_, _-_, _^_, _≤_, _<_, suc, zero-le}
+use native.Mathlib.Omega.{arith}
+use mathlib.Core.Path.{_≡_, refl, sym, ap, subst, _∙_}
+use mathlib.Core.Bool.{true, false, true≢false, false≢true}
+use mathlib.Core.List.{List}
+use lib.IntN.{ℤ, pos, negsuc, natAbs}
+use lib.Signed.{ltZ, nonNeg}
+use lib.Dec.{T, eqb}
+use lib.ListN.{length, take, drop, length-take, length-drop}
+use lib.Seq.{length-take-le}
+use mir.Syntax.{w32, w64}
+use mir.Val.{SFits, toZ, ofZ}
+use mir.Facts.{toZ-ofZ}
+use borrow.Author.Tests.{ltb-true, ltb-false, ne-eqb}
+use Rattle.libc.specs.Io.{Moved}
+use Rattle.io.specs.Counts.{Counts}
+use Rattle.program.specs.Told.{Input, Bytes, Unread, moreBytes, inputAfter, Handed, isError}
+
+-- the bits of an error are a number's exactly when it is that error
+pub error-bits : (n : ℕ) → n < 2 ^ 31 → (e : ℤ) → SFits w32 e → eqb (ofZ w32 e) n ≡ isError n e
+error-bits n h (pos k) f = refl
+error-bits n h (negsuc k) f = ne-eqb (2 ^ 32 - suc k) n (λ (e : 2 ^ 32 - suc k ≡ n). let s : k < 2 ^ 31 = f .sfits in omega arith)
+
+-- what holds of an answer, read back from its bits, holds of the answer
+pub as-said : (P : ℤ → Type 0) (z : ℤ) → SFits w64 z → P (toZ w64 (ofZ w64 z)) → P z
+as-said P z f p = subst P (toZ-ofZ f) p
+
+pub after-below : (n : ℕ) (z : ℤ) → ltZ z (pos 0) ≡ true → Unread ≡ inputAfter z n
+after-below n (pos k) e = absurd (let l : k < 0 = ltb-true k 0 e in omega arith)
+after-below n (negsuc k) e = refl
+
+pub after-others : (n : ℕ) (z : ℤ) → ltZ z (pos 0) ≡ false → Bytes n ≡ inputAfter z n
+after-others n (pos k) e = refl
+after-others n (negsuc k) e = absurd (true≢false e)
+
+pub above-counts : (z : ℤ) → ltZ (pos 0) z ≡ true → T (nonNeg z)
+above-counts (pos k) e = tt
+above-counts (negsuc k) e = absurd (false≢true e)
+
+pub more-above : (z : ℤ) → ltZ (pos 0) z ≡ true → natAbs z ≡ moreBytes z
+more-above (pos k) e = refl
+more-above (negsuc k) e = absurd (false≢true e)
+
+pub more-others : (z : ℤ) → ltZ (pos 0) z ≡ false → 0 ≡ moreBytes z
+more-others (pos k) e = let l : k ≤ 0 = ltb-false 0 k e in omega arith
+more-others (negsuc k) e = refl
+
+pub counted : (n : ℕ) (xs : List ℕ) → n ≤ length xs → Counts n xs
+counted n xs h = (h, sym (length-take-le n xs h))
+
+more-moved : (n : ℕ) (z : ℤ) → Moved n z → moreBytes z ≤ n
+more-moved n (pos k) h = h
+more-moved n (negsuc k) h = zero-le
+
+-- a read behind d bytes of n puts no more than there is room for
+pub more-room : (d n : ℕ) (z : ℤ) {k : ℕ} → d ≤ n → SFits w64 z → Moved (n - d) z → k ≡ moreBytes (toZ w64 (ofZ w64 z)) → d + k ≤ n
+more-room d n z l f h e = omega (arith, l, e ∙ ap moreBytes (toZ-ofZ f), more-moved (n - d) z h)
+
+-- a read behind what was read has the rest for its room
+pub moved-rest : (d : ℕ) (xs : List ℕ) (z : ℤ) → SFits w64 z → Moved (length (take (length xs - d) (drop d xs))) z → Moved (length xs - d) (toZ w64 (ofZ w64 z))
+moved-rest d xs z f h = subst (Moved (length xs - d)) (sym (toZ-ofZ f)) (subst (λ k. Moved k z) (simp (length-take, length-drop) (omega arith)) h)
+
+-- whatever the last read answered, what was read before it is handed on or nothing is
+pub handed-after : (n : ℕ) (xs : List ℕ) (z : ℤ) → n ≤ length xs → Handed (inputAfter z n) xs
+handed-after n xs (pos k) h = counted n xs h
+handed-after n xs (negsuc k) h = tt
+
+-- an input of n bytes hands on the first n of its buffer
+pub handed-bytes : (n : ℕ) (xs : List ℕ) {i : Input} → i ≡ Bytes n → Handed i xs → Counts n xs
+handed-bytes n xs e h = subst (λ x. Handed x xs) e h
