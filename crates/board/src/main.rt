@@ -8,11 +8,7 @@ fn main() {
         return;
     };
     let mut src = [0u8; 65537];
-    let Input::Bytes(n) = program::read_open(
-        libc::STDIN_FILENO,
-        b"the events on standard input",
-        &mut src,
-    ) else {
+    let Input::Bytes(n) = program::read_input(b"the events on standard input", &mut src) else {
         return;
     };
     let mut out = [0u8; 655360];

@@ -68,7 +68,7 @@ fn read_all(fd: i32, buf: &mut [u8]) -> Input
 }
 
 // Reads an open input, and says so under its name where it cannot be read.
-pub fn read_open(fd: i32, name: &[u8], buf: &mut [u8]) -> Input
+fn read_open(fd: i32, name: &[u8], buf: &mut [u8]) -> Input
     ensures { λ r. ⌜ Handed r (now (buf .exit)) ⌝ }
 {
     let input = read_all(fd, buf);
@@ -76,6 +76,13 @@ pub fn read_open(fd: i32, name: &[u8], buf: &mut [u8]) -> Input
         os::fail(name);
     }
     input
+}
+
+// Reads standard input, which the program calls by this name.
+pub fn read_input(name: &[u8], buf: &mut [u8]) -> Input
+    ensures { λ r. ⌜ Handed r (now (buf .exit)) ⌝ }
+{
+    read_open(libc::STDIN_FILENO, name, buf)
 }
 
 // Reads a file by its name; an absent one counts as empty.

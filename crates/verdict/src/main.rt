@@ -4,11 +4,7 @@ use program::Input;
 // One byte more than is judged is read, so that a longer input is seen to be longer.
 fn main() {
     let mut src = [0u8; 65537];
-    let Input::Bytes(n) = program::read_open(
-        libc::STDIN_FILENO,
-        b"the plan on standard input",
-        &mut src,
-    ) else {
+    let Input::Bytes(n) = program::read_input(b"the plan on standard input", &mut src) else {
         return;
     };
     let mut out = [0u8; 16803];

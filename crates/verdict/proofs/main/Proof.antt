@@ -7,14 +7,14 @@ use Rattle.verdict.proofs.main.Tie as tie
 array-share-prefix-src : tie.Need-array-share-prefix-src
 array-share-prefix-src c =
     let n = c .before .n .given in
-    let r = c .before .before .before .before .read-open in
-    handed-bytes (n .0 .0) (r .last .1 .1 .0) (n .1) (r .ensures) .0
+    let r = c .before .before .before .before .read-input in
+    handed-bytes (n .0 .0) (r .last .1 .0) (n .1) (r .ensures) .0
 
 slice-aggregate-verdict-in : tie.Need-slice-aggregate-verdict-in
 slice-aggregate-verdict-in c =
     let n = c .before .before .n .given in
-    let r = c .before .before .before .before .before .read-open in
-    handed-bytes (n .0 .0) (r .last .1 .1 .0) (n .1) (r .ensures) .1
+    let r = c .before .before .before .before .before .read-input in
+    handed-bytes (n .0 .0) (r .last .1 .0) (n .1) (r .ensures) .1
 
 pub main-spec : {M : Type 1} → statement M
 main-spec =
