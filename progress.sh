@@ -14,7 +14,7 @@ progress_on() { # WHO WHAT FILE ..: who says it, what is said of those that are 
 
 # What a file is called: a crate, or a crate and its edit.
 progress_name() { # FILE
-    local name=${1#*/target/}
+    local name=${1##*/target/}
     name=${name#log/}
     printf '%s' "${name#must-fail/}"
 }

@@ -1,4 +1,4 @@
--- What is handed on of an input, and which errors are no faults. No contract can say which bytes the system gives or takes; these say what is made of its answers.
+-- What is handed on of an input, and which errors are no faults. No contract can say which bytes the system gives or takes, nor what it answers; these say what is made of an answer.
 use Prim.Native.Nat.{ℕ}
 use mathlib.Core.List.{List}
 use mathlib.Core.Bool.{Bool, false}
@@ -18,7 +18,7 @@ abbrev pub inputAfter : ℤ → ℕ → Input
 inputAfter (pos k) n = Bytes n
 inputAfter (negsuc k) n = Unread
 
--- what is handed on of a buffer: the bytes at its start that were read
+-- what is handed on of a buffer: so many bytes at its start, and no more than it has
 abbrev pub Handed : Input → List ℕ → Type 0
 Handed (Bytes n) xs = Counts n xs
 Handed Unread xs = Unit {0}

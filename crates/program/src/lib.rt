@@ -1,4 +1,4 @@
-// What a program reads and writes. Where that fails it says what and why on standard error, where it says nothing else: whoever runs a program knows by what stands there whether it has answered.
+// What a program reads and writes. Where that fails it says what and why on standard error, where it says nothing else; only of a reader that has closed the pipe it says nothing, since the system's signal says that.
 ghost use mathlib.Core.Path.{_≡_};
 ghost use Prim.Native.Nat.{_-_, _≤_};
 ghost use lib.ListN.{length, take};
