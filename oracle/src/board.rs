@@ -287,7 +287,8 @@ impl Board {
         }
     }
 
-    fn show(&self, plan: &Plan, v: u64, n: u64) -> Result<Reply, u32> {
+    /// What a `show` answers; it changes nothing.
+    pub fn show(&self, plan: &Plan, v: u64, n: u64) -> Result<Reply, u32> {
         plan.task(v, n).ok_or(UNKNOWN)?;
         let held = self.held_by(v, n);
         let task = if held.iter().any(|m| plan.is_global(*m)) {

@@ -22,6 +22,17 @@ pub fn event(line: &[u8]) -> Result<Event, u32> {
     }
 }
 
+/// An event as `board` reads it, without its LF.
+pub fn event_text(event: Event) -> String {
+    match event {
+        Event::Ask { v, n, m } => format!("ask\t{}\t{}\t{}", v, n, m),
+        Event::Free { v, n, m } => format!("free\t{}\t{}\t{}", v, n, m),
+        Event::Use { v, t } => format!("use\t{}\t{}", v, t),
+        Event::Top { v } => format!("top\t{}", v),
+        Event::Show { v, n } => format!("show\t{}\t{}", v, n),
+    }
+}
+
 /// The answer's line.
 pub fn reply_text(reply: Reply) -> String {
     match reply {

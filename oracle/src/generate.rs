@@ -3,10 +3,12 @@
 mod chance;
 mod damage;
 mod happenings;
+mod runs;
 mod shapes;
 
 pub use chance::Chance;
 pub use happenings::{board_case, BoardCase};
+pub use runs::{clock_case, clock_plan, ClockCase};
 
 use crate::plan::Plan;
 

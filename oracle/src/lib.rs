@@ -1,7 +1,9 @@
-//! An independent reference for the plans, the verdict and the lock board of document 01.
+//! An independent reference for the plans, the verdict and the lock board of document 01, and for the
+//! clock of document 02.
 #![forbid(unsafe_code)]
 
 pub mod board;
+pub mod clock;
 pub mod events;
 pub mod figures;
 pub mod frames;
@@ -10,5 +12,6 @@ pub mod limits;
 pub mod plan;
 pub mod reading;
 pub mod search;
+pub mod swift;
 pub mod tally;
 pub mod verdict;

@@ -5,9 +5,10 @@ use std::io::{Read, Write};
 use std::path::Path;
 use std::process::ExitCode;
 
+use oracle::clock::clock_text;
 use oracle::events::board_text;
 use oracle::frames;
-use oracle::generate::{board_case, plan_case, plan_case_of, KINDS};
+use oracle::generate::{board_case, clock_case, plan_case, plan_case_of, KINDS};
 use oracle::limits::INPUT_BYTES;
 use oracle::reading::read;
 use oracle::verdict::{refused, verdict_text};
@@ -15,12 +16,14 @@ use oracle::verdict::{refused, verdict_text};
 const USAGE: &str = "usage:
   oracle verdict                        plan on standard input, listing out
   oracle board PLANFILE                 events on standard input, answers out
+  oracle clock PLANFILE                 the horizon's line on standard input, the run out
   oracle reading                        plan on standard input, its records or refusal out
   oracle plan                           the kinds of plan cases
   oracle plan SEED INDEX [KIND]         one plan case out
   oracle plan-for-events SEED INDEX     the plan of one board case out
   oracle events SEED INDEX              the events of one board case out
   oracle case SEED INDEX DIR            both, as DIR/plan.tsv and DIR/events.tsv
+  oracle clock-case SEED INDEX DIR      one clock case, as DIR/plan.tsv and DIR/horizon.tsv
   oracle corpus SEED COUNT FILE         COUNT plan cases in one file, each: length, LF, bytes
   oracle answers FILE                   their verdicts out, framed alike
   oracle board-corpus SEED COUNT FILE   COUNT board cases, each plan then events
@@ -59,6 +62,10 @@ fn run(args: &[&str]) -> Result<Vec<u8>, String> {
             let plan = std::fs::read(file).unwrap_or_default();
             Ok(board_text(&plan, &standard_input(Some(INPUT_BYTES))))
         }
+        ["clock", file] => {
+            let plan = std::fs::read(file).unwrap_or_default();
+            Ok(clock_text(&plan, &standard_input(Some(INPUT_BYTES))))
+        }
         ["reading"] => Ok(reading_text(&standard_input(None))),
         ["plan"] => Ok(kinds()),
         ["plan", seed, index] => Ok(plan_case(count(seed)?, count(index)?)),
@@ -68,7 +75,14 @@ fn run(args: &[&str]) -> Result<Vec<u8>, String> {
             .plan
             .unwrap_or_default()),
         ["events", seed, index] => Ok(board_case(count(seed)?, count(index)?).events),
-        ["case", seed, index, dir] => write_case(count(seed)?, count(index)?, Path::new(dir)),
+        ["case", seed, index, dir] => {
+            let case = board_case(count(seed)?, count(index)?);
+            write_case(Path::new(dir), case.plan, "events.tsv", &case.events)
+        }
+        ["clock-case", seed, index, dir] => {
+            let case = clock_case(count(seed)?, count(index)?);
+            write_case(Path::new(dir), case.plan, "horizon.tsv", &case.horizon)
+        }
         ["corpus", seed, number, file] => {
             let (seed, number) = (count(seed)?, count(number)?);
             let mut out = Vec::new();
@@ -139,18 +153,22 @@ fn kinds() -> Vec<u8> {
 }
 
 /// An absent plan leaves no plan.tsv.
-fn write_case(seed: u64, index: u64, dir: &Path) -> Result<Vec<u8>, String> {
-    let case = board_case(seed, index);
-    let plan = dir.join("plan.tsv");
+fn write_case(
+    dir: &Path,
+    plan: Option<Vec<u8>>,
+    name: &str,
+    input: &[u8],
+) -> Result<Vec<u8>, String> {
+    let file = dir.join("plan.tsv");
     std::fs::create_dir_all(dir).map_err(|e| format!("oracle: {}: {}\n", dir.display(), e))?;
-    match case.plan {
-        Some(bytes) => write(&plan, &bytes)?,
+    match plan {
+        Some(bytes) => write(&file, &bytes)?,
         None => {
-            let _ = std::fs::remove_file(&plan);
+            let _ = std::fs::remove_file(&file);
             Vec::new()
         }
     };
-    write(&dir.join("events.tsv"), &case.events)
+    write(&dir.join(name), input)
 }
 
 fn write(file: &Path, bytes: &[u8]) -> Result<Vec<u8>, String> {

@@ -3,6 +3,8 @@
 use std::collections::BTreeMap;
 use std::fmt;
 
+use crate::board::{Event, Reply};
+use crate::clock::Step;
 use crate::figures::{global_sections, wait_demand, wait_start};
 use crate::limits::{INPUT_BYTES, LOCKS};
 use crate::plan::{Overrun, Plan, Policy};
@@ -35,6 +37,52 @@ pub struct Tally {
     /// Event lists, and the answers to their events: `granted`, `freed -`, `refused 12` ..
     pub lists: u64,
     pub answers: BTreeMap<String, u64>,
+    /// Runs on a clock by how they came out: `ended`, `missed`, `horizon refused 2` ..
+    pub runs: BTreeMap<String, u64>,
+    /// The board events of those runs, and of them those of one sort: `waits`, `hand-ons` ..
+    pub steps: u64,
+    pub deeds: BTreeMap<&'static str, u64>,
+}
+
+/// What the steps of one run were, as they are seen.
+#[derive(Clone, PartialEq, Eq, Debug, Default)]
+pub struct Watch {
+    steps: u64,
+    deeds: BTreeMap<&'static str, u64>,
+    /// Budget left, by v.
+    left: BTreeMap<u64, u64>,
+}
+
+impl Watch {
+    /// One more step of the run.
+    pub fn see(&mut self, step: Step) {
+        self.steps += 1;
+        match (step.event, step.reply) {
+            (Event::Ask { .. }, Reply::Granted) => self.deed("grants"),
+            (Event::Ask { .. }, Reply::Waits) => self.deed("waits"),
+            (Event::Free { v, .. }, Reply::Freed(Some((to, _)))) if v == to => {
+                self.deed("hand-ons in a VCPU")
+            }
+            (Event::Free { .. }, Reply::Freed(Some(_))) => self.deed("hand-ons to another VCPU"),
+            (Event::Free { .. }, _) => self.deed("frees to nobody"),
+            (Event::Top { .. }, _) => self.deed("tops"),
+            (Event::Use { .. }, _) if step.idle => self.deed("idle losses"),
+            (Event::Use { v, .. }, _) if self.left.get(&v) == Some(&0) => {
+                self.deed("overrun ticks")
+            }
+            (Event::Use { .. }, _) => self.deed("budget ticks"),
+            _ => self.deed("others"),
+        }
+        if let (Event::Use { v, .. } | Event::Top { v }, Reply::Left { b, .. }) =
+            (step.event, step.reply)
+        {
+            self.left.insert(v, b);
+        }
+    }
+
+    fn deed(&mut self, name: &'static str) {
+        one_more(&mut self.deeds, name);
+    }
 }
 
 fn one_more<K: Ord>(counts: &mut BTreeMap<K, u64>, key: K) {
@@ -62,6 +110,9 @@ impl Tally {
         all_of(&mut self.all, &more.all);
         self.lists += more.lists;
         all_of(&mut self.answers, &more.answers);
+        all_of(&mut self.runs, &more.runs);
+        self.steps += more.steps;
+        all_of(&mut self.deeds, &more.deeds);
     }
 
     /// A plan and the listing that it gives.
@@ -104,6 +155,26 @@ impl Tally {
                 [] => String::new(),
             };
             one_more(&mut self.answers, key);
+        }
+    }
+
+    /// A plan, the horizon's line, what is printed for them, and the steps of the run.
+    pub fn add_run(&mut self, plan: &[u8], horizon: &[u8], printed: &[u8], watch: &Watch) {
+        self.steps += watch.steps;
+        all_of(&mut self.deeds, &watch.deeds);
+        let last = String::from_utf8_lossy(printed);
+        let last: Vec<&str> = last.lines().last().unwrap_or("").split('\t').collect();
+        let key = match last.as_slice() {
+            ["end", _] => "ended".to_string(),
+            ["missed", _, _, _] => "missed".to_string(),
+            ["refused", number] => format!("horizon refused {}", number),
+            _ => "plan or size refused".to_string(),
+        };
+        one_more(&mut self.runs, key);
+        if horizon.len() > INPUT_BYTES {
+            one_more(&mut self.refused, 8);
+        } else {
+            self.add_plan(plan);
         }
     }
 
@@ -197,6 +268,15 @@ impl fmt::Display for Tally {
             "  tasks out of the listing's order: {} plans; tasks with {} locks: {}",
             self.interleaved, LOCKS, self.crowded
         )?;
+        if !self.runs.is_empty() {
+            let share = |n: u64| 100.0 * n as f64 / self.steps.max(1) as f64;
+            writeln!(f, "  runs: {}", counted(&self.runs))?;
+            writeln!(f, "  events of runs: {}", self.steps)?;
+            for (deed, n) in &self.deeds {
+                writeln!(f, "    {}: {} ({:.1}%)", deed, n, share(*n))?;
+            }
+            return Ok(());
+        }
         if self.lists > 0 {
             return writeln!(
                 f,

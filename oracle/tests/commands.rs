@@ -7,9 +7,10 @@ use std::path::PathBuf;
 use std::process::{Command, Output, Stdio};
 
 use common::{text, worked};
+use oracle::clock::clock_text;
 use oracle::events::board_text;
 use oracle::frames;
-use oracle::generate::{board_case, plan_case};
+use oracle::generate::{board_case, clock_case, plan_case};
 use oracle::verdict::verdict_text;
 
 fn oracle(args: &[&str], input: &[u8]) -> Output {
@@ -69,6 +70,28 @@ fn board_reads_the_plan_file() {
 }
 
 #[test]
+fn clock_reads_the_plan_file() {
+    let dir = place("clock");
+    let name = dir.join("plan.tsv").to_string_lossy().into_owned();
+    let line = b"horizon\t30\n";
+    assert_eq!(printed(&["clock", &name], line), b"refused\t1\t1\n");
+    let plan = text(&worked("D O"));
+    std::fs::write(&name, &plan).expect("written");
+    assert_eq!(printed(&["clock", &name], line), clock_text(&plan, line));
+    assert_eq!(printed(&["clock", &name], b""), b"refused\t1\n");
+    let long = [b'\n'; 65_537];
+    assert_eq!(printed(&["clock", &name], &long), b"refused\t8\t0\n");
+    for index in 0..40 {
+        let case = clock_case(5, index);
+        let at = dir.to_string_lossy().into_owned();
+        printed(&["clock-case", "5", &index.to_string(), &at], b"");
+        assert_eq!(std::fs::read(&name).ok(), case.plan);
+        let horizon = std::fs::read(dir.join("horizon.tsv")).ok();
+        assert_eq!(horizon, Some(case.horizon));
+    }
+}
+
+#[test]
 fn cases_and_corpora() {
     let dir = place("corpora");
     let file = dir.join("cases").to_string_lossy().into_owned();
@@ -109,6 +132,53 @@ fn cases_and_corpora() {
     }
 }
 
+/// What `compare` prints, and its status.
+fn compared(args: &[&str]) -> (String, Option<i32>) {
+    let out = Command::new(env!("CARGO_BIN_EXE_compare"))
+        .args(args)
+        .output()
+        .expect("the program ends");
+    let text = String::from_utf8_lossy(&out.stdout).into_owned();
+    (text, out.status.code())
+}
+
+#[test]
+fn compare_finds_one_wrong_line_of_a_run() {
+    let dir = place("compare");
+    let oracle = env!("CARGO_BIN_EXE_oracle");
+    let save = dir.join("save").to_string_lossy().into_owned();
+    let (out, status) = compared(&["clock", "1", "30", &save, oracle, "clock", "plan.tsv"]);
+    assert_eq!(status, Some(0));
+    assert!(out.starts_with("30 cases compared, 0 differ\n"), "{}", out);
+    assert!(!dir.join("save").exists());
+
+    // A case of its own, and a program that says `left 1 0` where it is `left 0 0`.
+    let case = dir.join("cases").join("one");
+    std::fs::create_dir_all(&case).expect("a directory");
+    let plan = "plan 1/policy D N/vcpu 1 1 0 1 4/guest 1/task 1 1 4/run 1/end/";
+    let want = "0 top 1 left 1 0/0 use 1 1 left 0 0/end 3/";
+    for (file, spaced) in [
+        ("plan.tsv", plan),
+        ("horizon.tsv", "horizon 3/"),
+        ("want.tsv", want),
+    ] {
+        std::fs::write(case.join(file), text(spaced)).expect("written");
+    }
+    let cases = dir.join("cases").to_string_lossy().into_owned();
+    let run = ["horizons", &cases, &save, oracle, "clock", "plan.tsv"];
+    assert_eq!(compared(&run).1, Some(0));
+    let wrong = format!("'{}' clock plan.tsv | sed 's/left.0/left\\t1/'", oracle);
+    let (out, status) = compared(&["horizons", &cases, &save, "sh", "-c", &wrong]);
+    assert_eq!(status, Some(1));
+    assert!(out.contains("1 cases compared, 1 differ\n"), "{}", out);
+    let got = std::fs::read(dir.join("save").join("one").join("got")).expect("kept");
+    assert_eq!(got, text(&want.replace("left 0", "left 1")));
+
+    // What is wanted by hand counts as well.
+    std::fs::write(case.join("want.tsv"), b"end\t3\n").expect("written");
+    assert_eq!(compared(&run).1, Some(1));
+}
+
 #[test]
 fn wrong_arguments() {
     for args in [
@@ -116,6 +186,8 @@ fn wrong_arguments() {
         &["what"],
         &["verdict", "1"],
         &["board"],
+        &["clock"],
+        &["clock-case", "1", "1"],
         &["plan", "1"],
         &["plan", "x", "1"],
         &["plan", "1", "1", "no-such-kind"],

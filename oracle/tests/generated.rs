@@ -5,15 +5,16 @@ mod common;
 use std::collections::BTreeMap;
 
 use common::ANSWERS;
+use oracle::clock::{clock_text, clock_text_of};
 use oracle::events::board_text;
 use oracle::frames;
 use oracle::generate::{
-    board_case, kind_of, plan_case, plan_case_of, valid_plan, Chance, KINDS, VALID,
+    board_case, clock_case, kind_of, plan_case, plan_case_of, valid_plan, Chance, KINDS, VALID,
 };
 use oracle::limits::INPUT_BYTES;
 use oracle::plan::{Overrun, Policy};
 use oracle::reading::read;
-use oracle::tally::Tally;
+use oracle::tally::{Tally, Watch};
 use oracle::verdict::verdict_text;
 
 #[test]
@@ -333,6 +334,48 @@ fn the_gates_cases_reach_every_corner() {
         let seen = lists.answers.get(answer).copied().unwrap_or(0);
         assert!(seen > 100, "{}: {}", answer, lists);
     }
+
+    let mut runs = Tally::default();
+    for index in 0..500 {
+        let case = clock_case(1, index);
+        let plan = case.plan.unwrap_or_default();
+        let mut watch = Watch::default();
+        let text = clock_text_of(&plan, &case.horizon, &mut |step| watch.see(step));
+        runs.add_run(&plan, &case.horizon, &text, &watch);
+    }
+    assert!(runs.accepted > 400 && runs.steps > 125_000, "{}", runs);
+    assert!(
+        runs.policies.len() == 4 && runs.interleaved > 50,
+        "{}",
+        runs
+    );
+    for (outcome, least) in [
+        ("ended", 150),
+        ("missed", 100),
+        ("horizon refused 1", 3),
+        ("horizon refused 2", 1),
+        ("horizon refused 3", 1),
+        ("plan or size refused", 10),
+    ] {
+        let seen = runs.runs.get(outcome).copied().unwrap_or(0);
+        assert!(seen >= least, "{}: {}", outcome, runs);
+    }
+    for deed in [
+        "budget ticks",
+        "frees to nobody",
+        "grants",
+        "hand-ons in a VCPU",
+        "hand-ons to another VCPU",
+        "idle losses",
+        "overrun ticks",
+        "tops",
+        "waits",
+    ] {
+        let seen = runs.deeds.get(deed).copied().unwrap_or(0);
+        assert!(seen > 300, "{}: {}", deed, runs);
+    }
+    assert_eq!(runs.deeds.get("others"), None);
+    assert_eq!(runs.deeds.values().sum::<u64>(), runs.steps);
 }
 
 #[test]
@@ -360,6 +403,33 @@ fn a_tally_counts_what_it_is_given() {
     assert_eq!((board.lists, board.accepted), (3, 1));
     assert_eq!(board.refused, BTreeMap::from([(1, 1), (8, 1)]));
     assert_eq!(board.answers, BTreeMap::from([("left".to_string(), 1)]));
+
+    let mut clock = Tally::default();
+    for line in [&b"horizon\t4\n"[..], b"horizon\t0\n", b""] {
+        let mut watch = Watch::default();
+        let text = clock_text_of(&plan, line, &mut |step| watch.see(step));
+        clock.add_run(&plan, line, &text, &watch);
+    }
+    clock.add_run(b"", b"", &clock_text(b"", b""), &Watch::default());
+    assert_eq!((clock.accepted, clock.steps), (3, 8));
+    let runs: Vec<(&str, u64)> = clock.runs.iter().map(|(k, n)| (k.as_str(), *n)).collect();
+    let expected = [
+        ("ended", 1),
+        ("horizon refused 1", 1),
+        ("horizon refused 3", 1),
+        ("plan or size refused", 1),
+    ];
+    assert_eq!(runs, expected);
+    assert_eq!(
+        clock.deeds,
+        BTreeMap::from([
+            ("budget ticks", 3),
+            ("frees to nobody", 1),
+            ("grants", 1),
+            ("overrun ticks", 1),
+            ("tops", 2)
+        ])
+    );
 }
 
 /// FNV-1a over everything given.
@@ -379,10 +449,15 @@ fn the_same_seed_gives_the_same_cases_for_ever() {
         let case = board_case(7, index);
         [case.plan.unwrap_or_default(), case.events].concat()
     }));
+    let horizons = mark((0..200).map(|index| {
+        let case = clock_case(7, index);
+        [case.plan.unwrap_or_default(), case.horizon].concat()
+    }));
     assert_eq!(
         (plans, events),
         (5_770_797_171_161_140_698, 4_040_754_978_698_668_373)
     );
+    assert_eq!(horizons, 3_362_016_028_732_430_306);
     assert_ne!(plan_case(7, 1), plan_case(8, 1));
     assert!((0..400).map(|i| kind_of(7, i)).any(|kind| kind == "wrap"));
 }

@@ -7,16 +7,19 @@ use std::process::{Command, ExitCode, Stdio};
 use std::sync::atomic::{AtomicU64, Ordering};
 use std::sync::Mutex;
 
+use oracle::clock::clock_text_of;
 use oracle::events::board_text;
-use oracle::generate::{board_case, plan_case};
-use oracle::tally::Tally;
+use oracle::generate::{board_case, clock_case, plan_case};
+use oracle::tally::{Tally, Watch};
 use oracle::verdict::verdict_text;
 
 const USAGE: &str = "usage:
   compare verdict SEED COUNT SAVE PROGRAM [ARG ..]    COUNT generated plans: the listing
   compare board SEED COUNT SAVE PROGRAM [ARG ..]      COUNT generated plans with events
+  compare clock SEED COUNT SAVE PROGRAM [ARG ..]      COUNT generated plans with a horizon
   compare plans FOLDER SAVE PROGRAM [ARG ..]          the plans that FOLDER/want.tsv names, and what it wants of each
   compare events FOLDER SAVE PROGRAM [ARG ..]         every folder in FOLDER: plan.tsv (if any), events.tsv, want.tsv
+  compare horizons FOLDER SAVE PROGRAM [ARG ..]       every folder in FOLDER: plan.tsv (if any), horizon.tsv, want.tsv
 A case on which the program and the reference differ, or the reference and what is wanted, is kept in the folder SAVE.
 Status 1 where there is one, 2 where the cases or the program cannot be had.
 ";
@@ -52,12 +55,33 @@ impl Want {
     }
 }
 
+/// The standard input of a program; `board` and `clock` read the plan as plan.tsv in their folder.
+#[derive(Clone)]
+enum Input {
+    /// The plan itself, for `verdict`.
+    Plan,
+    /// For `board`.
+    Events(Vec<u8>),
+    /// For `clock`.
+    Horizon(Vec<u8>),
+}
+
+impl Input {
+    /// The bytes beside the plan, and the name of the file in which they are kept.
+    fn beside(&self) -> Option<(&str, &[u8])> {
+        match self {
+            Input::Plan => None,
+            Input::Events(bytes) => Some(("events.tsv", bytes)),
+            Input::Horizon(bytes) => Some(("horizon.tsv", bytes)),
+        }
+    }
+}
+
 #[derive(Clone)]
 struct Case {
     name: String,
     plan: Option<Vec<u8>>,
-    /// None for a run of `verdict`, whose input is the plan.
-    events: Option<Vec<u8>>,
+    input: Input,
     want: Option<Want>,
 }
 
@@ -86,7 +110,7 @@ fn run(args: &[String]) -> Result<u64, String> {
                 Some(Case {
                     name: format!("verdict-{}-{}", seed, index),
                     plan: Some(plan_case(seed, index)),
-                    events: None,
+                    input: Input::Plan,
                     want: None,
                 })
             })
@@ -98,7 +122,19 @@ fn run(args: &[String]) -> Result<u64, String> {
                 Some(Case {
                     name: format!("board-{}-{}", seed, index),
                     plan: case.plan,
-                    events: Some(case.events),
+                    input: Input::Events(case.events),
+                    want: None,
+                })
+            })
+        }
+        ["clock", seed, count, save, program @ ..] if !program.is_empty() => {
+            let seed = number(seed)?;
+            all(number(count)?, save, program, &|index| {
+                let case = clock_case(seed, index);
+                Some(Case {
+                    name: format!("clock-{}-{}", seed, index),
+                    plan: case.plan,
+                    input: Input::Horizon(case.horizon),
                     want: None,
                 })
             })
@@ -107,7 +143,12 @@ fn run(args: &[String]) -> Result<u64, String> {
             stored(stored_plans(Path::new(folder))?, save, program)
         }
         ["events", folder, save, program @ ..] if !program.is_empty() => {
-            stored(stored_events(Path::new(folder))?, save, program)
+            let cases = stored_folders(Path::new(folder), "events.tsv", &Input::Events)?;
+            stored(cases, save, program)
+        }
+        ["horizons", folder, save, program @ ..] if !program.is_empty() => {
+            let cases = stored_folders(Path::new(folder), "horizon.tsv", &Input::Horizon)?;
+            stored(cases, save, program)
         }
         _ => Err(USAGE.to_string()),
     }
@@ -177,7 +218,7 @@ fn stored_plans(folder: &Path) -> Result<Vec<Case>, String> {
         cases.push(Case {
             name: name.to_string(),
             plan: Some(file_bytes(&folder.join(format!("{}.tsv", name)))?),
-            events: None,
+            input: Input::Plan,
             want: Some(want),
         });
     }
@@ -192,10 +233,17 @@ fn stored_plans(folder: &Path) -> Result<Vec<Case>, String> {
     Ok(cases)
 }
 
-/// Each folder has events.tsv and want.tsv, and plan.tsv unless the plan is absent.
-fn stored_events(folder: &Path) -> Result<Vec<Case>, String> {
+/// Each folder has a file for standard input and want.tsv, and plan.tsv unless the plan is absent.
+fn stored_folders(
+    folder: &Path,
+    file: &str,
+    input: &dyn Fn(Vec<u8>) -> Input,
+) -> Result<Vec<Case>, String> {
     let mut cases = Vec::new();
     for path in entries(folder)? {
+        if path.extension().map_or(false, |e| e == "md") {
+            continue;
+        }
         let plan = path.join("plan.tsv");
         cases.push(Case {
             name: named(&path),
@@ -204,7 +252,7 @@ fn stored_events(folder: &Path) -> Result<Vec<Case>, String> {
             } else {
                 None
             },
-            events: Some(file_bytes(&path.join("events.tsv"))?),
+            input: input(file_bytes(&path.join(file))?),
             want: Some(Want::Text(file_bytes(&path.join("want.tsv"))?)),
         });
     }
@@ -298,35 +346,44 @@ fn one(
     done: &Mutex<(u64, Tally)>,
 ) -> Result<bool, String> {
     let plan = case.plan.clone().unwrap_or_default();
-    let (wanted, input) = match &case.events {
-        None => (verdict_text(&plan), &plan),
-        Some(events) => (board_text(&plan, events), events),
-    };
     let mut held = Tally::default();
-    match &case.events {
-        None => held.add_listing(&plan, &wanted),
-        Some(events) => held.add_answers(&plan, events, &wanted),
-    }
+    let wanted = match &case.input {
+        Input::Plan => {
+            let wanted = verdict_text(&plan);
+            held.add_listing(&plan, &wanted);
+            wanted
+        }
+        Input::Events(events) => {
+            let wanted = board_text(&plan, events);
+            held.add_answers(&plan, events, &wanted);
+            wanted
+        }
+        Input::Horizon(line) => {
+            let mut watch = Watch::default();
+            let wanted = clock_text_of(&plan, line, &mut |step| watch.see(step));
+            held.add_run(&plan, line, &wanted, &watch);
+            wanted
+        }
+    };
     if let Ok(mut all) = done.lock() {
         all.1.add(&held);
     }
-    let place = std::env::temp_dir().join(format!("compare-{}-{}", std::process::id(), thread));
-    if case.events.is_some() {
-        std::fs::create_dir_all(&place).map_err(|e| format!("compare: {}\n", e))?;
-        let file = place.join("plan.tsv");
-        let _ = std::fs::remove_file(&file);
-        if let Some(bytes) = &case.plan {
-            std::fs::write(&file, bytes).map_err(|e| format!("compare: {}\n", e))?;
+    let got = match case.input.beside() {
+        None => printed(program, None, &plan)?,
+        Some((_, input)) => {
+            let place =
+                std::env::temp_dir().join(format!("compare-{}-{}", std::process::id(), thread));
+            std::fs::create_dir_all(&place).map_err(|e| format!("compare: {}\n", e))?;
+            let file = place.join("plan.tsv");
+            let _ = std::fs::remove_file(&file);
+            if let Some(bytes) = &case.plan {
+                std::fs::write(&file, bytes).map_err(|e| format!("compare: {}\n", e))?;
+            }
+            let got = printed(program, Some(place.as_path()), input)?;
+            let _ = std::fs::remove_dir_all(&place);
+            got
         }
-    }
-    let got = printed(
-        program,
-        case.events.as_ref().map(|_| place.as_path()),
-        input,
-    )?;
-    if case.events.is_some() {
-        let _ = std::fs::remove_dir_all(&place);
-    }
+    };
     let meets = case.want.as_ref().map_or(true, |w| w.meets(&wanted));
     if got == wanted && meets {
         return Ok(true);
@@ -338,7 +395,10 @@ fn one(
     };
     std::fs::create_dir_all(&kept)
         .and_then(|()| write("plan.tsv", case.plan.as_deref()))
-        .and_then(|()| write("events.tsv", case.events.as_deref()))
+        .and_then(|()| match case.input.beside() {
+            Some((file, bytes)) => write(file, Some(bytes)),
+            None => Ok(()),
+        })
         .and_then(|()| write("by-hand", case.want.as_ref().map(|w| w.words())))
         .and_then(|()| write("reference", Some(&wanted)))
         .and_then(|()| write("got", Some(&got)))

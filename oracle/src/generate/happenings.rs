@@ -3,7 +3,7 @@
 use super::shapes::{draw, valid, Shape};
 use super::{damage, Chance};
 use crate::board::{Board, Event};
-use crate::events::event;
+use crate::events::{event, event_text};
 use crate::limits::{GUESTS, INPUT_BYTES, MUTEXES, PLACES, TICKS, TOP_CORE, VCPUS};
 use crate::plan::{Lock, Mutex, Open, Overrun, Owner, Plan, Policy, Section, Task, Vcpu};
 
@@ -188,14 +188,7 @@ fn events_for(chance: &mut Chance, plan: &Plan) -> Vec<u8> {
 }
 
 fn written(event: Event) -> Vec<u8> {
-    match event {
-        Event::Ask { v, n, m } => format!("ask\t{}\t{}\t{}", v, n, m),
-        Event::Free { v, n, m } => format!("free\t{}\t{}\t{}", v, n, m),
-        Event::Use { v, t } => format!("use\t{}\t{}", v, t),
-        Event::Top { v } => format!("top\t{}", v),
-        Event::Show { v, n } => format!("show\t{}\t{}", v, n),
-    }
-    .into_bytes()
+    event_text(event).into_bytes()
 }
 
 /// A line without its LF.
