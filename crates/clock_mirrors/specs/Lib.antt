@@ -1,0 +1,10 @@
+pub mod Tells
+pub mod Writes
+pub mod Holds
+pub mod Supplies
+pub mod Asks
+pub mod Places
+pub mod Works
+pub mod Firsts
+pub mod FreeBoards
+pub mod Frees

@@ -1,0 +1,3 @@
+pub mod Paced
+pub mod SectionLaws
+pub mod PacedLaws

@@ -1,0 +1,2 @@
+pub mod Clock
+pub mod Trace

@@ -1,0 +1,9 @@
+pub mod Misses
+pub mod Runs
+pub mod Exactly
+pub mod Cores
+pub mod Jobs
+pub mod Uses
+pub mod Ledgers
+pub mod Texts
+pub mod Lines

@@ -1,0 +1,3 @@
+pub mod Ceiled
+pub mod Ties
+pub mod Strict

@@ -1,0 +1,2 @@
+pub mod Picks
+pub mod PickLaws
