@@ -1,0 +1,5 @@
+pub mod Nexts
+pub mod LeastLaws
+pub mod WriteLaws
+pub mod ScanLaws
+pub mod DueLaws

@@ -1,0 +1,165 @@
+// How a tick opens on the clock: the tops that are due, then the releases, where no job is missed. What they are stands in specs/Clock of `clock_rules`, what holds of the lists in specs/Opens here.
+use board_rules::Board;
+use board_rules::Event;
+use plan::OverrunChoice;
+use plan::Policy;
+ghost use mathlib.Core.Path.{_≡_};
+ghost use Prim.Native.Nat.{_<_, _≤_};
+ghost use lib.ListN.{length};
+ghost use Rattle.board_rules.specs.View.{factsIn};
+ghost use Rattle.board_rules.specs.Settle.{Marked};
+ghost use Rattle.board_rules.specs.Board.{step};
+ghost use Rattle.clock_rules.specs.Clock.{tops};
+ghost use Rattle.clock_rules.specs.Trace.{eventLine, linesAt};
+ghost use Rattle.clock_marks.specs.Marks.{boardOf, Sized};
+ghost use Rattle.clock_lines.specs.Told.{RoomAt};
+ghost use Rattle.clock_nexts.specs.Nexts.{Nexts};
+ghost use Rattle.clock_going.specs.Going.{timingBy, Going};
+ghost use Rattle.clock_opens.specs.Opens.{topsTo, OneTop, Topped, Release, Releases, Opening};
+
+// What the opening of a tick leaves: where its text ends, and the seat of the first missed job, 0 for none.
+pub struct Opened {
+    pub at: usize,
+    pub seat: u64,
+}
+
+// `top v` is made and told.
+fn top(
+    on: bool,
+    policy: Policy,
+    choice: OverrunChoice,
+    view: &[u64],
+    left: &mut [u64],
+    over: &mut [u64],
+    stopped: &mut [bool],
+    holder: &[u16],
+    waits: &[u8],
+    marks: &mut [u64],
+    v: u64,
+    t: u64,
+    out: &mut [u8],
+    at: usize,
+) -> usize
+    requires { ⌜ (length (now left) ≡ 16) × (length (now over) ≡ 16) × (length (now stopped) ≡ 16) × Marked (factsIn policy choice (now view)) (boardOf (now left) (now over) (now stopped) (now holder) (now waits)) × Sized (now marks) × (0 < v) × (v ≤ 16) × RoomAt on (eventLine t (Event.Top v) (step (factsIn policy choice (now view)) (boardOf (now left) (now over) (now stopped) (now holder) (now waits)) (Event.Top v) .answer)) (now out) at ⌝ }
+    ensures { λ r. ⌜ OneTop (factsIn policy choice (now (view .entry))) choice on t v (boardOf (now (left .entry)) (now (over .entry)) (now (stopped .entry)) (now (holder .entry)) (now (waits .entry))) (now (marks .entry)) (now (out .entry)) at (boardOf (now (left .exit)) (now (over .exit)) (now (stopped .exit)) (now (holder .entry)) (now (waits .entry))) (now (marks .exit)) (now (out .exit)) r ⌝ }
+{
+    let a = Board::top_in(policy, choice, view, left, over, stopped, holder, v);
+    clock_puts::put_supply(choice, left, over, stopped, marks, v);
+    clock_lines::tell(on, out, at, t, Event::Top { v }, a)
+}
+
+// The `top` events of tick t.
+fn tops(
+    on: bool,
+    policy: Policy,
+    choice: OverrunChoice,
+    view: &[u64],
+    times: &[u64],
+    left: &mut [u64],
+    over: &mut [u64],
+    stopped: &mut [bool],
+    holder: &[u16],
+    waits: &[u8],
+    marks: &mut [u64],
+    t: u64,
+    out: &mut [u8],
+    at: usize,
+) -> usize
+    requires { ⌜ Going policy choice (now view) (now times) (now left) (now over) (now stopped) (now holder) (now waits) (now marks) × RoomAt on (linesAt (factsIn policy choice (now view)) t (boardOf (now left) (now over) (now stopped) (now holder) (now waits)) (topsTo (now times) (now marks) t 16)) (now out) at ⌝ }
+    ensures { λ r. ⌜ Topped (factsIn policy choice (now (view .entry))) (now (times .entry)) on t (boardOf (now (left .entry)) (now (over .entry)) (now (stopped .entry)) (now (holder .entry)) (now (waits .entry))) (now (marks .entry)) (now (out .entry)) at 16 (boardOf (now (left .exit)) (now (over .exit)) (now (stopped .exit)) (now (holder .entry)) (now (waits .entry))) (now (marks .exit)) (now (out .exit)) r ⌝ }
+{
+    let mut w = at;
+    let mut i: u64 = 0;
+    while i < 16 {
+        if clock_nexts::is_due(times, marks, i, t) {
+            w = top(
+                on,
+                policy,
+                choice,
+                view,
+                left,
+                over,
+                stopped,
+                holder,
+                waits,
+                marks,
+                i + 1,
+                t,
+                out,
+                w,
+            );
+        }
+        i += 1;
+    }
+    w
+}
+
+// The job of (v, n) is released.
+fn release(times: &[u64], marks: &mut [u64], v: u64, n: u64)
+    requires { ⌜ Sized (now marks) × (0 < v) × (v ≤ 16) × (0 < n) × (n ≤ 8) ⌝ }
+    ensures { λ out. ⌜ Release (now (times .entry)) (now (marks .entry)) (now (marks .exit)) v n ⌝ }
+{
+    let e = board_seats::at(times, 159 + board_seats::seat(v, n));
+    clock_puts::put_done(marks, v, n, 0);
+    clock_puts::put_place(marks, v, n, 0);
+    clock_puts::put_ready(marks, v, n, 0 < e);
+}
+
+// The releases of tick t, where no job is missed.
+fn releases(times: &[u64], marks: &mut [u64], t: u64)
+    requires { ⌜ (length (now times) ≡ 3360) × Sized (now marks) ⌝ }
+    ensures { λ out. ⌜ Releases (now (times .entry)) (now (marks .entry)) t 128 (now (marks .exit)) ⌝ }
+{
+    let mut s: u64 = 0;
+    while s < 128 {
+        if clock_nexts::is_due(times, marks, 16 + s, t) {
+            release(times, marks, s / 8 + 1, s % 8 + 1);
+        }
+        s += 1;
+    }
+}
+
+// Tick t opens: its tops, then its releases and when each recurs next; where a job is missed, the tops alone.
+pub fn open(
+    on: bool,
+    policy: Policy,
+    choice: OverrunChoice,
+    view: &[u64],
+    times: &[u64],
+    left: &mut [u64],
+    over: &mut [u64],
+    stopped: &mut [bool],
+    holder: &[u16],
+    waits: &[u8],
+    marks: &mut [u64],
+    t: u64,
+    out: &mut [u8],
+    at: usize,
+) -> Opened
+    requires { ⌜ Going policy choice (now view) (now times) (now left) (now over) (now stopped) (now holder) (now waits) (now marks) × Nexts (now times) (now marks) t × (t ≤ 1000000) × RoomAt on (linesAt (factsIn policy choice (now view)) t (boardOf (now left) (now over) (now stopped) (now holder) (now waits)) (tops (timingBy policy choice (now view) (now times)) t)) (now out) at ⌝ }
+    ensures { λ r. ⌜ Opening policy choice (now (view .entry)) (now (times .entry)) on t (now (left .entry)) (now (over .entry)) (now (stopped .entry)) (now (holder .entry)) (now (waits .entry)) (now (marks .entry)) (now (out .entry)) at (now (left .exit)) (now (over .exit)) (now (stopped .exit)) (now (marks .exit)) (now (out .exit)) (r .at) (r .seat) ⌝ }
+{
+    let w = tops(
+        on,
+        policy,
+        choice,
+        view,
+        times,
+        left,
+        over,
+        stopped,
+        holder,
+        waits,
+        marks,
+        t,
+        out,
+        at,
+    );
+    let s = clock_nexts::missed_at(times, marks, t);
+    if 0 < s {
+        return Opened { at: w, seat: s };
+    }
+    releases(times, marks, t);
+    clock_nexts::renew(times, marks, t);
+    Opened { at: w, seat: 0 }
+}

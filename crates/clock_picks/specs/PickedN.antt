@@ -1,0 +1,135 @@
+-- The task that is picked in a VCPU, by the sets that the clock keeps and by what each task holds; and who is picked by both.
+use Prim.Native.Nat.{ℕ, _+_, _<_, _≤_, max}
+use mathlib.Core.Path.{_≡_, refl, sym, ap, ap₂, _∙_}
+use mathlib.Core.List.{List}
+use mathlib.Core.Bool.{Bool, true, false, _&&_, not}
+use native.Mathlib.Omega.{arith}
+use borrow.Author.Tests.{eqb-true, eq-eqb, ne-eqb, not-false}
+use lib.Dec.{eqb}
+use lib.ListN.{getD}
+use Rattle.laws.specs.Choice.{if_then_else_}
+use Rattle.laws.specs.Range.{highest}
+use Rattle.laws.specs.RangeLaws.{any-at, highest-le, highest-same}
+use Rattle.laws.specs.BoolLaws.{both, both-right, clash, is-false}
+use Rattle.laws_picks.specs.Picks.{topOf}
+use Rattle.laws_picks.specs.PickLaws.{top-most, top-found}
+use Rattle.plan.specs.Limits.{maxV, maxM, mostN, taskRaise}
+use Rattle.plan.specs.declared.Policy.{Policy}
+use Rattle.plan.specs.declared.OverrunChoice.{OverrunChoice}
+use Rattle.board_walks.specs.Walks.{localUnder}
+use Rattle.board_seats.specs.Seats.{seat, ceilingOf}
+use Rattle.board_rules.specs.Facts.{Facts}
+use Rattle.board_rules.specs.View.{factsIn}
+use Rattle.board_rules.specs.declared.Board.{Board}
+use Rattle.board_rules.specs.declared.Next.the-variants.{Nobody, To}
+use Rattle.board_rules.specs.Board.{holds, isAsleep, localWaiter, heldGlobal, heldLocal, raisedBy, taskPriority, vcpuPriority}
+use Rattle.board_keeps.specs.Fair.{InV, InN}
+use Rattle.clock_rules.specs.Clock.{Timing, isReady, hasReady, isOn, mayRun, pickV, pickN, picked}
+use Rattle.clock_sets.specs.Sets.{inSet, Meet}
+use Rattle.clock_sets.specs.SetLaws.{in-none}
+use Rattle.clock_times.specs.Times.{timingIn}
+use Rattle.clock_marks.specs.Marks.{atHeld, tasksCell, holdersCell, heldCell, heldBy, globalMark, doneIn, Mirrors}
+use Rattle.clock_picks.specs.Tops.{top-plain, top-same}
+use Rattle.clock_picks.specs.Picking.{rankOf, PicksN}
+
+-- THE PRIORITY of a task is its rank by what it holds
+
+pub rank-some : (t ws : List ℕ) (v m n : ℕ) → 0 < n → 0 < rankOf t ws v m n
+rank-some t ws v m n h = go (eqb m 0) (eqb m globalMark)
+  where
+    go : (a c : Bool) → 0 < (if a then n else (if c then taskRaise + n else max n (localUnder t ws v (ceilingOf t m))))
+    go true c = h
+    go false true = omega arith
+    go false false = omega arith
+
+-- by what the list k has at its seat
+pub rank-by : (t ws k : List ℕ) (v n : ℕ) {s m r : ℕ} → s ≡ seat v n → m ≡ getD k (atHeld + s) 0 → r ≡ rankOf t ws v m n → r ≡ rankOf t ws v (heldCell k v n) n
+rank-by t ws k v n e f g = rw (g, f, e)
+
+-- a task that holds nothing has its own
+plain-priority : (F : Facts) (b : Board) (v n : ℕ) → heldBy F b v n ≡ 0 → taskPriority F b v n ≡ n
+unfolding taskPriority
+plain-priority F b v n = go (heldGlobal F b v n) (heldLocal F b v n)
+  where
+    go : (g : Bool) (m : ℕ) → (if g then globalMark else m) ≡ 0 → (if g then taskRaise + n else (if eqb m 0 then n else max n (raisedBy F b v m))) ≡ n
+    go true m e = absurd (omega arith)
+    go false m e = rw e
+
+module _ (p : Policy) (o : OverrunChoice) (t : List ℕ) (b : Board) (v : ℕ) where
+  raised-in : (m : ℕ) → raisedBy (factsIn p o t) b v m ≡ localUnder t (b .waits) v (ceilingOf t m)
+  unfolding raisedBy localWaiter factsIn
+  raised-in m = refl
+
+  local-to : (n : ℕ) → heldLocal (factsIn p o t) b v n ≤ maxM
+  unfolding heldLocal
+  local-to n = highest-le maxM (λ m. factsIn p o t .localTo v m && holds b v n m)
+
+  pub priority-rank : (n : ℕ) → rankOf t (b .waits) v (heldBy (factsIn p o t) b v n) n ≡ taskPriority (factsIn p o t) b v n
+  unfolding taskPriority
+  priority-rank n = go (heldGlobal (factsIn p o t) b v n) (heldLocal (factsIn p o t) b v n) (local-to n)
+    where
+      go : (g : Bool) (m : ℕ) → m ≤ maxM → rankOf t (b .waits) v (if g then globalMark else m) n
+          ≡ (if g then taskRaise + n else (if eqb m 0 then n else max n (raisedBy (factsIn p o t) b v m)))
+      go true m l = refl
+      go false m l = rw (ne-eqb m globalMark (λ e. omega arith), raised-in m)
+
+-- THE PICK
+
+module _ {T : Timing} {x : List ℕ} {b : Board} {k : List ℕ} (m : Mirrors T x b k) (v : ℕ) (i : InV v) where
+  ready-is : {s : ℕ} → s ≡ tasksCell k v → (n : ℕ) → 0 < n → n ≤ 8 → inSet s n ≡ isReady T b (doneIn k) v n
+  ready-is e n a l = ap (λ s. inSet s n) e ∙ m .tasks v n i (record { from = a; to = l })
+
+  -- no ready task holds a mutex: the highest
+  pub pick-n-plain : {s h u r : ℕ} → s ≡ tasksCell k v → h ≡ holdersCell k v → Meet s h u → u ≡ 0 → r ≡ highest 8 (inSet s) → r ≡ pickN T b (doneIn k) v
+  unfolding pickN
+  pick-n-plain {s} {h} {u} e f meet z q =
+      q ∙ highest-same 8 (ready-is e) ∙ top-plain 8 (isReady T b (doneIn k) v) (taskPriority (T .facts) b v) own
+    where
+      held-none : (n : ℕ) → 0 < n → n ≤ 8 → isReady T b (doneIn k) v n ≡ true → heldCell k v n ≡ 0
+      held-none n a l t =
+          let j : InN n = record { from = a; to = l } in
+          let g : inSet u n ≡ false = ap (λ s. inSet s n) z ∙ in-none n in
+          let d : inSet h n ≡ false = is-false (inSet h n) (λ y. clash (meet .names n a (omega arith) ∙ both (inSet s n) (inSet h n) (ready-is e n a l ∙ t) y) g) in
+          eqb-true (heldCell k v n) 0 (not-false _ (sym (m .holders v n i j) ∙ (ap (λ s. inSet s n) (sym f) ∙ d)))
+
+      own : (n : ℕ) → 0 < n → n ≤ 8 → isReady T b (doneIn k) v n ≡ true → taskPriority (T .facts) b v n ≡ n
+      own n a l t = plain-priority (T .facts) b v n (sym (m .held v n i (record { from = a; to = l })) ∙ held-none n a l t)
+
+-- else the topmost by rank
+pub pick-n-ranked : (t ws k : List ℕ) (v : ℕ) {s r : ℕ} → InV v → s ≡ tasksCell k v → r ≡ topOf 8 (inSet s) (λ n. rankOf t ws v (heldCell k v n) n) → PicksN t ws k v r
+unfolding pickN timingIn
+pick-n-ranked t ws k v i e q p o x b w m =
+    q ∙ top-same 8 (ready-is m v i e)
+    (λ n a l. ap₂ (λ y h. rankOf t y v h n) (sym w) (m .held v n i (record { from = a; to = l })) ∙ priority-rank p o t b v n)
+
+-- WHO IS PICKED BY BOTH
+
+-- the VCPU that core c picks has a task that is picked in it, and both are in range
+pub record PickedBoth (T : Timing) (c : ℕ) (b : Board) (d : List ℕ) : Type 0 where
+  pub v-in : InV (pickV T c b d)
+  pub n-in : InN (pickN T b d (pickV T c b d))
+  pub is : picked T c b d ≡ To (pickV T c b d) (pickN T b d (pickV T c b d))
+
+module _ (T : Timing) (c : ℕ) (b : Board) (d : List ℕ) where
+  pub picked-none : pickV T c b d ≡ 0 → picked T c b d ≡ Nobody
+  unfolding picked
+  picked-none e = rw (eq-eqb (pickV T c b d) 0 e)
+
+  -- a VCPU that may run has a ready task, so that one is picked
+  task-in : (v : ℕ) → mayRun T c b d v ≡ true → InN (pickN T b d v)
+  unfolding pickN
+  task-in v e =
+      let h = both-right (not (isAsleep (T .facts) b v)) (hasReady T b d v) (both-right (isOn T c v) _ e) in
+      let w = any-at mostN (isReady T b d v) h in
+      top-found mostN (isReady T b d v) (taskPriority (T .facts) b v) (w .at) (w .within .from) (w .within .to) (w .is) .in-range
+
+  pub picked-both : 0 < pickV T c b d → PickedBoth T c b d
+  unfolding picked pickV
+  picked-both h =
+      let r = top-most maxV (mayRun T c b d) (vcpuPriority (T .facts) b) h in
+      let j = task-in (pickV T c b d) (r .is-passed) in
+      record {
+        v-in = r .in-range;
+        n-in = j;
+        is = rw (ne-eqb (pickV T c b d) 0 (λ e. omega arith), ne-eqb (pickN T b d (pickV T c b d)) 0 (λ e. let g = j .from in omega arith));
+      }

@@ -1,0 +1,136 @@
+// Who is picked, by the sets that the clock keeps beside the board. What they say stands in specs/Marks of `clock_marks`, who is picked in specs/Clock of `clock_rules`.
+use board_seats::at;
+use plan::larger;
+ghost use mathlib.Core.Path.{_≡_};
+ghost use Prim.Native.Nat.{ℕ, _<_, _≤_};
+ghost use Rattle.laws_picks.specs.Picks.{topOf};
+ghost use Rattle.clock_sets.specs.Sets.{inSet};
+ghost use Rattle.clock_marks.specs.Marks.{heldCell, doneCell, Sized};
+ghost use Rattle.clock_picks.specs.Picking.{isCandidate, rankOf, mutexAt, PicksV, PicksN, IsDue, IsOver, Idlers};
+
+// Those VCPUs of core c that are awake and have a ready task.
+fn candidates(marks: &[u64], c: u64) -> u64
+    requires { ⌜ Sized (now marks) × (c ≤ 3) ⌝ }
+    ensures { λ r. ⌜ (r < 65536) × ((v : ℕ) → 0 < v → v ≤ 16 → inSet r v ≡ isCandidate (now (marks .entry)) c v) ⌝ }
+{
+    let spared = clock_sets::meet(at(marks, 1), at(marks, 3));
+    let awake = clock_sets::join(at(marks, 0), spared);
+    let ready = clock_sets::meet(at(marks, 564 + c), at(marks, 2));
+    clock_sets::meet(ready, awake)
+}
+
+// The VCPU that core c picks, 0 for none: the highest whose tasks hold a global mutex, else the highest.
+pub fn pick_v(marks: &[u64], c: u64) -> u64
+    requires { ⌜ Sized (now marks) × (c ≤ 3) ⌝ }
+    ensures { λ r. ⌜ (r ≤ 16) × PicksV (now (marks .entry)) c r ⌝ }
+{
+    let may = candidates(marks, c);
+    let raised = clock_sets::meet(may, at(marks, 3));
+    if raised == 0 {
+        return clock_sets::highest_in(may);
+    }
+    clock_sets::highest_in(raised)
+}
+
+// The priority of task (v, n), which holds m: 33 is a global mutex, 0 none.
+fn rank(view: &[u64], waits: &[u8], v: u64, m: u64, n: u64) -> u64
+    requires { ⌜ (v ≤ 16) × (n ≤ 8) ⌝ }
+    ensures { λ r. ⌜ r ≡ rankOf (now (view .entry)) (now (waits .entry)) v m n ⌝ }
+{
+    if m == 0 {
+        return n;
+    }
+    if m == 33 {
+        return 8 + n;
+    }
+    larger(
+        n,
+        board_walks::local_under(view, waits, v, board_seats::ceiling(view, m)),
+    )
+}
+
+// The task of v with the highest priority among those in the set, by what each holds.
+fn pick_ranked(view: &[u64], waits: &[u8], marks: &[u64], v: u64, set: u64) -> u64
+    requires { ⌜ (0 < v) × (v ≤ 16) ⌝ }
+    ensures { λ r. ⌜ (r ≡ topOf 8 (inSet set) (λ n. rankOf (now (view .entry)) (now (waits .entry)) v (heldCell (now (marks .entry)) v n) n)) × (r ≤ 8) ⌝ }
+{
+    let mut best = 0;
+    let mut high = 0;
+    let mut n: u64 = 8;
+    while 0 < n {
+        if clock_sets::has(set, n) {
+            let p = rank(view, waits, v, at(marks, 35 + board_seats::seat(v, n)), n);
+            if high < p {
+                high = p;
+                best = n;
+            }
+        }
+        n -= 1;
+    }
+    best
+}
+
+// The task of v that is picked in it, 0 for none.
+pub fn pick_n(view: &[u64], waits: &[u8], marks: &[u64], v: u64) -> u64
+    requires { ⌜ Sized (now marks) × (0 < v) × (v ≤ 16) ⌝ }
+    ensures { λ r. ⌜ (r ≤ 8) × PicksN (now (view .entry)) (now (waits .entry)) (now (marks .entry)) v r ⌝ }
+{
+    let ready = at(marks, 3 + v);
+    let holders = clock_sets::meet(ready, at(marks, 19 + v));
+    if holders == 0 {
+        return clock_sets::highest_in(ready);
+    }
+    pick_ranked(view, waits, marks, v, ready)
+}
+
+// The mutex of the section of (v, n) behind q others, if d stands for it in the part of the times that begins at `part`; 0 for none.
+fn mutex_at(times: &[u64], part: u64, v: u64, n: u64, q: u64, d: u64) -> u64
+    requires { ⌜ (0 < v) × (v ≤ 16) × (0 < n) × (n ≤ 8) × (part ≤ 2336) ⌝ }
+    ensures { λ r. ⌜ r ≡ mutexAt (now (times .entry)) part v n q d ⌝ }
+{
+    if q < 8 {
+        let i = (board_seats::seat(v, n) - 1) * 8 + q;
+        if at(times, part + i) == d {
+            return at(times, 2336 + i);
+        }
+    }
+    0
+}
+
+// The mutex for which a picked task is to ask, 0 for none.
+pub fn due(times: &[u64], holder: &[u16], marks: &[u64], v: u64, n: u64) -> u64
+    requires { ⌜ (0 < v) × (v ≤ 16) × (0 < n) × (n ≤ 8) ⌝ }
+    ensures { λ r. ⌜ IsDue (now (times .entry)) (now (holder .entry)) (now (marks .entry)) v n r ⌝ }
+{
+    let s = board_seats::seat(v, n);
+    let m = mutex_at(times, 288, v, n, at(marks, 291 + s), at(marks, 163 + s));
+    if board_seats::holds(holder, v, n, m) {
+        return 0;
+    }
+    m
+}
+
+// The mutex whose section is finished with one more tick, 0 for none.
+pub fn over(times: &[u64], marks: &[u64], v: u64, n: u64) -> u64
+    requires { ⌜ (0 < v) × (v ≤ 16) × (0 < n) × (n ≤ 8) × (doneCell (now marks) v n ≤ 17000000) ⌝ }
+    ensures { λ r. ⌜ IsOver (now (times .entry)) (now (marks .entry)) v n r ⌝ }
+{
+    let s = board_seats::seat(v, n);
+    mutex_at(
+        times,
+        1312,
+        v,
+        n,
+        at(marks, 291 + s),
+        at(marks, 163 + s) + 1,
+    )
+}
+
+// The VCPUs of core c with budget and no ready task.
+pub fn idlers(marks: &[u64], c: u64) -> u64
+    requires { ⌜ Sized (now marks) × (c ≤ 3) ⌝ }
+    ensures { λ r. ⌜ (r < 65536) × Idlers (now (marks .entry)) c r ⌝ }
+{
+    let budget = clock_sets::meet(at(marks, 564 + c), at(marks, 0));
+    clock_sets::less(budget, at(marks, 2))
+}

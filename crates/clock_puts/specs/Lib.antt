@@ -1,0 +1,4 @@
+pub mod Puts
+pub mod PutLaws
+pub mod SizedLaws
+pub mod CoreLaws

@@ -1,0 +1,236 @@
+// A core's turn on the clock, and the turns of cores 0 to 3, on the board's arrays and what is kept beside them. What they are stands in specs/Clock of `clock_rules`, what is said of each function in specs/Turned.
+use plan::OverrunChoice;
+use plan::Policy;
+ghost use mathlib.Core.Path.{_≡_};
+ghost use Prim.Native.Nat.{_≤_};
+ghost use Rattle.board_supply.specs.Supplies.{underP};
+ghost use Rattle.board_rules.specs.Board.{nextOf};
+ghost use Rattle.board_rules.specs.View.{factsIn};
+ghost use Rattle.clock_rules.specs.Clock as clock;
+ghost use Rattle.clock_rules.specs.Trace.{linesAt};
+ghost use Rattle.clock_marks.specs.Marks.{boardOf, runIn, doneIn};
+ghost use Rattle.clock_lines.specs.Told.{RoomAt};
+ghost use Rattle.clock_going.specs.Going.{timingBy, Going};
+ghost use Rattle.clock_turns.specs.Turned.{Turned, Did, Uses};
+
+// Policy P holds.
+fn under_p(policy: Policy) -> bool
+    ensures { λ r. ⌜ r ≡ underP policy ⌝ }
+{
+    match policy {
+        Policy::Periodic => true,
+        Policy::Deferrable => false,
+    }
+}
+
+// Under P each VCPU of core c with budget and no ready task loses a tick; under D nobody does.
+fn lose(
+    on: bool,
+    policy: Policy,
+    choice: OverrunChoice,
+    view: &[u64],
+    times: &[u64],
+    left: &mut [u64],
+    over: &mut [u64],
+    stopped: &mut [bool],
+    holder: &[u16],
+    waits: &[u8],
+    marks: &mut [u64],
+    c: u64,
+    t: u64,
+    out: &mut [u8],
+    at: usize,
+) -> usize
+    requires { ⌜ Going policy choice (now view) (now times) (now left) (now over) (now stopped) (now holder) (now waits) (now marks) × (c ≤ 3) ⌝ }
+    requires { ⌜ RoomAt on (linesAt (factsIn policy choice (now view)) t (boardOf (now left) (now over) (now stopped) (now holder) (now waits)) (clock.idleUses (timingBy policy choice (now view) (now times)) c (boardOf (now left) (now over) (now stopped) (now holder) (now waits)) (doneIn (now marks)))) (now out) at ⌝ }
+    ensures { λ r. ⌜ Did policy choice (now (view .entry)) (now (times .entry)) on t (runIn (now (left .entry)) (now (over .entry)) (now (stopped .entry)) (now (holder .entry)) (now (waits .entry)) (now (marks .entry))) (clock.idleUses (timingBy policy choice (now (view .entry)) (now (times .entry))) c (boardOf (now (left .entry)) (now (over .entry)) (now (stopped .entry)) (now (holder .entry)) (now (waits .entry))) (doneIn (now (marks .entry)))) (doneIn (now (marks .entry))) (now (left .exit)) (now (over .exit)) (now (stopped .exit)) (now (holder .entry)) (now (waits .entry)) (now (marks .exit)) (now (out .entry)) at (now (out .exit)) r ⌝ }
+{
+    if under_p(policy) {
+        return clock_works::idle_uses(
+            on,
+            policy,
+            choice,
+            view,
+            times,
+            left,
+            over,
+            stopped,
+            holder,
+            waits,
+            marks,
+            c,
+            t,
+            out,
+            at,
+        );
+    }
+    at
+}
+
+// Task (v, n), which was picked, uses one tick; nobody does where v is 0.
+fn works(
+    on: bool,
+    policy: Policy,
+    choice: OverrunChoice,
+    view: &[u64],
+    times: &[u64],
+    left: &mut [u64],
+    over: &mut [u64],
+    stopped: &mut [bool],
+    holder: &mut [u16],
+    waits: &mut [u8],
+    marks: &mut [u64],
+    v: u64,
+    n: u64,
+    t: u64,
+    out: &mut [u8],
+    at: usize,
+) -> usize
+    requires { ⌜ Going policy choice (now view) (now times) (now left) (now over) (now stopped) (now holder) (now waits) (now marks) × Uses (timingBy policy choice (now view) (now times)) (boardOf (now left) (now over) (now stopped) (now holder) (now waits)) (doneIn (now marks)) v n ⌝ }
+    requires { ⌜ RoomAt on (linesAt (factsIn policy choice (now view)) t (boardOf (now left) (now over) (now stopped) (now holder) (now waits)) (clock.work (timingBy policy choice (now view) (now times)) (doneIn (now marks)) (nextOf v n))) (now out) at ⌝ }
+    ensures { λ r. ⌜ Did policy choice (now (view .entry)) (now (times .entry)) on t (runIn (now (left .entry)) (now (over .entry)) (now (stopped .entry)) (now (holder .entry)) (now (waits .entry)) (now (marks .entry))) (clock.work (timingBy policy choice (now (view .entry)) (now (times .entry))) (doneIn (now (marks .entry))) (nextOf v n)) (clock.workDone (doneIn (now (marks .entry))) (nextOf v n)) (now (left .exit)) (now (over .exit)) (now (stopped .exit)) (now (holder .exit)) (now (waits .exit)) (now (marks .exit)) (now (out .entry)) at (now (out .exit)) r ⌝ }
+{
+    if v == 0 {
+        return at;
+    }
+    clock_works::work(
+        on,
+        policy,
+        choice,
+        view,
+        times,
+        left,
+        over,
+        stopped,
+        holder,
+        waits,
+        marks,
+        v,
+        n,
+        t,
+        out,
+        at,
+    )
+}
+
+// Core c's turn.
+pub fn turn(
+    on: bool,
+    policy: Policy,
+    choice: OverrunChoice,
+    view: &[u64],
+    times: &[u64],
+    left: &mut [u64],
+    over: &mut [u64],
+    stopped: &mut [bool],
+    holder: &mut [u16],
+    waits: &mut [u8],
+    marks: &mut [u64],
+    c: u64,
+    t: u64,
+    out: &mut [u8],
+    at: usize,
+) -> usize
+    requires { ⌜ Going policy choice (now view) (now times) (now left) (now over) (now stopped) (now holder) (now waits) (now marks) × (c ≤ 3) ⌝ }
+    requires { ⌜ RoomAt on (linesAt (factsIn policy choice (now view)) t (boardOf (now left) (now over) (now stopped) (now holder) (now waits)) (clock.turn (timingBy policy choice (now view) (now times)) c (runIn (now left) (now over) (now stopped) (now holder) (now waits) (now marks)))) (now out) at ⌝ }
+    ensures { λ r. ⌜ Turned policy choice (now (view .entry)) (now (times .entry)) on t (runIn (now (left .entry)) (now (over .entry)) (now (stopped .entry)) (now (holder .entry)) (now (waits .entry)) (now (marks .entry))) (clock.afterTurn (timingBy policy choice (now (view .entry)) (now (times .entry))) c (runIn (now (left .entry)) (now (over .entry)) (now (stopped .entry)) (now (holder .entry)) (now (waits .entry)) (now (marks .entry)))) (clock.turn (timingBy policy choice (now (view .entry)) (now (times .entry))) c (runIn (now (left .entry)) (now (over .entry)) (now (stopped .entry)) (now (holder .entry)) (now (waits .entry)) (now (marks .entry)))) (now (left .exit)) (now (over .exit)) (now (stopped .exit)) (now (holder .exit)) (now (waits .exit)) (now (marks .exit)) (now (out .entry)) at (now (out .exit)) r ⌝ }
+{
+    let p = clock_asks::asks(
+        on,
+        policy,
+        choice,
+        view,
+        times,
+        left,
+        over,
+        stopped,
+        holder,
+        waits,
+        marks,
+        c,
+        t,
+        out,
+        at,
+    );
+    let w = lose(
+        on,
+        policy,
+        choice,
+        view,
+        times,
+        left,
+        over,
+        stopped,
+        holder,
+        waits,
+        marks,
+        c,
+        t,
+        out,
+        p.at,
+    );
+    works(
+        on,
+        policy,
+        choice,
+        view,
+        times,
+        left,
+        over,
+        stopped,
+        holder,
+        waits,
+        marks,
+        p.v,
+        p.n,
+        t,
+        out,
+        w,
+    )
+}
+
+// Cores 0 to 3 take their turns.
+pub fn turns(
+    on: bool,
+    policy: Policy,
+    choice: OverrunChoice,
+    view: &[u64],
+    times: &[u64],
+    left: &mut [u64],
+    over: &mut [u64],
+    stopped: &mut [bool],
+    holder: &mut [u16],
+    waits: &mut [u8],
+    marks: &mut [u64],
+    t: u64,
+    out: &mut [u8],
+    at: usize,
+) -> usize
+    requires { ⌜ Going policy choice (now view) (now times) (now left) (now over) (now stopped) (now holder) (now waits) (now marks) ⌝ }
+    requires { ⌜ RoomAt on (linesAt (factsIn policy choice (now view)) t (boardOf (now left) (now over) (now stopped) (now holder) (now waits)) (clock.turns (timingBy policy choice (now view) (now times)) clock.cores (runIn (now left) (now over) (now stopped) (now holder) (now waits) (now marks)))) (now out) at ⌝ }
+    ensures { λ r. ⌜ Turned policy choice (now (view .entry)) (now (times .entry)) on t (runIn (now (left .entry)) (now (over .entry)) (now (stopped .entry)) (now (holder .entry)) (now (waits .entry)) (now (marks .entry))) (clock.afterTurns (timingBy policy choice (now (view .entry)) (now (times .entry))) clock.cores (runIn (now (left .entry)) (now (over .entry)) (now (stopped .entry)) (now (holder .entry)) (now (waits .entry)) (now (marks .entry)))) (clock.turns (timingBy policy choice (now (view .entry)) (now (times .entry))) clock.cores (runIn (now (left .entry)) (now (over .entry)) (now (stopped .entry)) (now (holder .entry)) (now (waits .entry)) (now (marks .entry)))) (now (left .exit)) (now (over .exit)) (now (stopped .exit)) (now (holder .exit)) (now (waits .exit)) (now (marks .exit)) (now (out .entry)) at (now (out .exit)) r ⌝ }
+{
+    let mut w = at;
+    let mut c: u64 = 0;
+    while c < 4 {
+        w = turn(
+            on,
+            policy,
+            choice,
+            view,
+            times,
+            left,
+            over,
+            stopped,
+            holder,
+            waits,
+            marks,
+            c,
+            t,
+            out,
+            w,
+        );
+        c += 1;
+    }
+    w
+}

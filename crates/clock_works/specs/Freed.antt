@@ -1,0 +1,277 @@
+-- A finished section is freed: what is written then of the task that held the mutex, and of the next one that has it.
+use Prim.Native.Nat.{ℕ, _+_, _-_}
+use mathlib.Core.Path.{_≡_, refl, ap, sym, subst, _∙_}
+use mathlib.Core.List.{List, [], _∷_}
+use mathlib.Core.Bool.{Bool, true, false, _&&_, true≢false}
+use native.Mathlib.Omega.{arith}
+use borrow.Author.Tests.{le-leb, eq-eqb, ne-eqb}
+use lib.Dec.{ltb, leb}
+use lib.ListN.{getD}
+use Rattle.laws.specs.Choice.{if_then_else_, when}
+use Rattle.laws.specs.BoolLaws.{both}
+use Rattle.plan.specs.Limits.{maxV, mostN}
+use Rattle.plan.specs.declared.Policy.{Policy}
+use Rattle.plan.specs.declared.OverrunChoice.{OverrunChoice}
+use Rattle.plan.specs.declared.Fault.{Fault}
+use Rattle.plan.specs.declared.Fault.the-variants.{Clear, Bad}
+use Rattle.board_seats.specs.Seats.{isV, isN, seat}
+use Rattle.board_walks.specs.Walks as walks
+use Rattle.board_rules.specs.Facts.{Facts}
+use Rattle.board_rules.specs.View.{factsIn}
+use Rattle.board_rules.specs.declared.Board.{Board}
+use Rattle.board_rules.specs.declared.Event.the-variants.{Free}
+use Rattle.board_rules.specs.declared.Next.{Next}
+use Rattle.board_rules.specs.declared.Next.the-variants.{Nobody, To}
+use Rattle.board_rules.specs.declared.BoardAnswer.{BoardAnswer}
+use Rattle.board_rules.specs.declared.BoardAnswer.the-variants.{Granted, Waits, Freed, Left, Shows, Refused}
+use Rattle.board_rules.specs.declared.Outcome.{Outcome}
+use Rattle.board_rules.specs.Board.{holdsGlobal, heldGlobal, heldLocal, freed, freedGlobal, freedLocal, freeFault, answered, step}
+use Rattle.board_keeps.specs.Fair.{InV, InN}
+use Rattle.clock_rules.specs.Clock.{isUnfinished, freeOf}
+use Rattle.clock_rules.specs.Trace.{eventLine, linesAt}
+use Rattle.clock_times.specs.Times.{timingIn, lengthsCell}
+use Rattle.clock_marks.specs.Marks.{atHolding, atDone, boardOf, runIn, doneIn, doneCell, globalMark, spares, Sized, Mirrors}
+use Rattle.clock_marks.specs.Changes.{PutIn, PutReady, PutHeld}
+use Rattle.clock_puts.specs.Puts.{PutSupply}
+use Rattle.clock_puts.specs.SizedLaws.{sized-put-held, sized-put-in, sized-put-ready}
+use Rattle.clock_steps.specs.Accepted.{isRefusal}
+use Rattle.clock_paced.specs.Paced.{Paced}
+use Rattle.clock_mirrors.specs.Frees.{PutNext, free-mirrors, waiter-unfinished, next-waited}
+use Rattle.clock_mirrors.specs.Writes.{done-kept}
+use Rattle.clock_steps.specs.Running.{Running}
+use Rattle.clock_lines.specs.Told.{toldAt, toldTo, RoomAt}
+use Rattle.clock_going.specs.Going.{timingBy, Going, Made}
+use Rattle.clock_works.specs.Making.{made-none, made-one, room-one}
+use Rattle.clock_works.specs.Using.{put-supply-of}
+
+-- WHO IS NEXT, by the answer to a `free`
+abbrev pub nextIn : BoardAnswer → Next
+nextIn Granted = Nobody
+nextIn Waits = Nobody
+nextIn (Freed w) = w
+nextIn (Left b o) = Nobody
+nextIn (Shows t v) = Nobody
+nextIn (Refused r) = Nobody
+
+-- that is not refused
+pub freed-answer : (F : Facts) (b : Board) (v n m : ℕ) → isRefusal (step F b (Free v n m) .answer) ≡ false →
+    step F b (Free v n m) .answer ≡ Freed (nextIn (step F b (Free v n m) .answer))
+unfolding step freed freedGlobal freedLocal
+freed-answer F b v n m h = at-fault (freeFault F b v n m) h
+  where
+    at-global : (t : Bool) → (if t then freedGlobal F b m else freedLocal F b v m) .answer ≡ Freed (nextIn ((if t then freedGlobal F b m else freedLocal F b v m) .answer))
+    at-global true = refl
+    at-global false = refl
+
+    at-fault : (x : Fault) → isRefusal (answered b x (freed F b v m) .answer) ≡ false → answered b x (freed F b v m) .answer ≡ Freed (nextIn (answered b x (freed F b v m) .answer))
+    at-fault Clear h = at-global (F .global m)
+    at-fault (Bad r) h = absurd (true≢false h)
+
+-- its names are in range
+abbrev pub NextIn : Next → Type 0
+NextIn Nobody = Unit {0}
+NextIn (To w y) = InV w × InN y
+
+-- WHAT IS WRITTEN: t is the view of the plan, and ls, os, ss, hs are the budgets, the overruns, the marks and the holders when the mutex is freed
+
+-- what task (w, y) holds
+abbrev pub heldAt : List ℕ → List ℕ → ℕ → ℕ → ℕ
+heldAt t hs w y = if walks.heldGlobal t hs w y then globalMark else walks.heldLocal t hs w y
+
+-- of the next one, who waited: what it holds, that it is ready, whether its VCPU's tasks hold a global mutex
+pub record Handed (t hs : List ℕ) (w y : ℕ) (k k′ : List ℕ) : Type 0 where
+  pub with-held : List ℕ
+  pub with-ready : List ℕ
+  pub held : PutHeld k with-held w y (heldAt t hs w y)
+  pub ready : PutReady with-held with-ready w y true
+  pub holding : PutIn with-ready k′ atHolding w (walks.holdsGlobal t hs w)
+
+-- whoever is next
+abbrev pub Passed : List ℕ → List ℕ → Next → List ℕ → List ℕ → Type 0
+Passed t hs Nobody k k′ = k′ ≡ k
+Passed t hs (To w y) k k′ = Handed t hs w y k k′
+
+-- of the task (v, n) that held it too: it holds none, whether its VCPU's tasks hold a global mutex, and the supply of its VCPU
+pub record PutFreed (o : OverrunChoice) (t ls os : List ℕ) (ss : List Bool) (hs : List ℕ) (v n : ℕ) (next : Next) (k k′ : List ℕ) : Type 0 where
+  pub with-held : List ℕ
+  pub with-next : List ℕ
+  pub with-holding : List ℕ
+  pub held : PutHeld k with-held v n 0
+  pub passed : Passed t hs next with-held with-next
+  pub holding : PutIn with-next with-holding atHolding v (walks.holdsGlobal t hs v)
+  pub supply : PutSupply with-holding k′ v (ltb 0 (getD ls (v - 1) 0)) (spares o (getD ss (v - 1) false) (getD os (v - 1) 0))
+
+-- what task (w, y) holds: a global mutex, else what a walk of the local ones finds
+pub held-global : (t hs : List ℕ) (w y : ℕ) {a : Bool} → a ≡ walks.heldGlobal t hs w y → a ≡ true → globalMark ≡ heldAt t hs w y
+held-global t hs w y e q = sym (ap (λ (s : Bool). if s then globalMark else walks.heldLocal t hs w y) (sym e ∙ q))
+
+-- or a local one
+pub held-local : (t hs : List ℕ) (w y : ℕ) {a : Bool} {m : ℕ} → a ≡ walks.heldGlobal t hs w y → a ≡ false → m ≡ walks.heldLocal t hs w y → m ≡ heldAt t hs w y
+held-local t hs w y e q r = r ∙ sym (ap (λ (s : Bool). if s then globalMark else walks.heldLocal t hs w y) (sym e ∙ q))
+
+-- the three writes of the next one
+pub handed-is : (t hs : List ℕ) {w y : ℕ} {k k₁ k₂ k′ : List ℕ} {m : ℕ} {a : Bool} → m ≡ heldAt t hs w y → PutHeld k k₁ w y m → PutReady k₁ k₂ w y true →
+    a ≡ walks.holdsGlobal t hs w → PutIn k₂ k′ 3 w a → Handed t hs w y k k′
+handed-is t hs {w} {y} {k} {k₁} {k₂} {k′} em p q ea r = record {
+  with-held = k₁;
+  with-ready = k₂;
+  held = subst (PutHeld k k₁ w y) em p;
+  ready = q;
+  holding = subst (PutIn k₂ k′ 3 w) ea r;
+}
+
+-- THE LIST STAYS SIZED
+handed-sized : {t hs : List ℕ} {w y : ℕ} {k k′ : List ℕ} → Sized k → InV w → InN y → Handed t hs w y k k′ → Sized k′
+handed-sized z i j h = sized-put-in (sized-put-ready (sized-put-held z i j (h .held)) i (h .ready)) (omega arith) (h .holding)
+
+-- whoever is next
+pub passed-sized : (t hs : List ℕ) (next : Next) {k : List ℕ} (k′ : List ℕ) → Sized k → NextIn next → Passed t hs next k k′ → Sized k′
+passed-sized t hs Nobody k′ z q h = subst Sized (sym h) z
+passed-sized t hs (To w y) k′ z q h = handed-sized z (q .0) (q .1) h
+
+-- THE TICKS DONE stay
+handed-cell : {t hs : List ℕ} {w y : ℕ} {k k′ : List ℕ} → InV w → InN y → Handed t hs w y k k′ → (u z : ℕ) → InV u → InN z → doneCell k′ u z ≡ doneCell k u z
+handed-cell {w = w} {y = y} i j h u z a c =
+    h .holding .else-same (atDone + seat u z) (λ e. omega arith) ∙ h .ready .else-same (atDone + seat u z) (λ e. omega arith) (λ e. omega arith)
+    ∙ h .held .else-same (atDone + seat u z) (λ e. omega arith) (λ e. omega arith)
+
+-- whoever is next
+passed-cell : (t hs : List ℕ) (next : Next) (k k′ : List ℕ) → NextIn next → Passed t hs next k k′ → (u z : ℕ) → InV u → InN z → doneCell k′ u z ≡ doneCell k u z
+passed-cell t hs Nobody k k′ q h u z a c = ap (λ l. doneCell l u z) h
+passed-cell t hs (To w y) k k′ q h u z a c = handed-cell (q .0) (q .1) h u z a c
+
+-- all of them
+pub freed-done : {o : OverrunChoice} {t ls os : List ℕ} {ss : List Bool} {hs : List ℕ} {v n : ℕ} {next : Next} {k k′ : List ℕ} → InV v → InN n → NextIn next →
+    PutFreed o t ls os ss hs v n next k k′ → doneIn k′ ≡ doneIn k
+freed-done {t = t} {hs = hs} {next = next} {k = k} {k′ = k′} i j q h =
+    done-kept k k′
+    (λ u z a c.
+    h .supply .else-same (atDone + seat u z) (λ e. omega arith) (λ e. omega arith) ∙ h .holding .else-same (atDone + seat u z) (λ e. omega arith)
+    ∙ passed-cell t hs next (h .with-held) (h .with-next) q (h .passed) u z a c ∙ h .held .else-same (atDone + seat u z) (λ e. omega arith) (λ e. omega arith))
+
+-- THE LENGTHS of a task, by the times
+pub lengths-in : (p : Policy) (o : OverrunChoice) (t x : List ℕ) (w y : ℕ) → InV w → InN y → timingBy p o t x .lengths w y ≡ lengthsCell x w y
+unfolding timingIn when
+lengths-in p o t x w y i j = ap (λ (s : Bool). when s (lengthsCell x w y)) named
+  where
+    named : (isV w && isN y) ≡ true
+    named = both (isV w) (isN y) (both (leb 1 w) (leb w maxV) (le-leb 1 w (i .from)) (le-leb w maxV (i .to))) (both (leb 1 y) (leb y mostN) (le-leb 1 y (j .from)) (le-leb y mostN (j .to)))
+
+-- WHAT IS KEPT mirrors the board after it
+module _ (p : Policy) (o : OverrunChoice) (t x : List ℕ) (pace : Paced (timingBy p o t x)) where
+  -- the next one is in range, and its job is unfinished
+  record Waiter (d : List ℕ) (w y : ℕ) : Type 0 where
+    v-in : InV w
+    n-in : InN y
+    unfinished : isUnfinished (timingBy p o t x) d w y ≡ true
+
+  -- whoever is next
+  abbrev WaiterIn : List ℕ → Next → Type 0
+  WaiterIn d Nobody = Unit {0}
+  WaiterIn d (To w y) = Waiter d w y
+
+  -- what is written of it
+  next-put : (d k k′ : List ℕ) (b : Board) (next : Next) → WaiterIn d next → Passed t (b .holder) next k k′ → PutNext (timingBy p o t x) b d next k k′
+  unfolding timingIn factsIn heldGlobal heldLocal holdsGlobal
+  next-put d k k′ b Nobody q h = h
+  next-put d k k′ b (To w y) q h = record {
+    with-held = h .with-held;
+    with-ready = h .with-ready;
+    held = h .held;
+    ready = subst (PutReady (h .with-held) (h .with-ready) w y) (sym (q .unfinished)) (h .ready);
+    holding = h .holding;
+  }
+
+  module _ {b : Board} {k : List ℕ} (m : Mirrors (timingBy p o t x) x b k) (r : Running (timingBy p o t x) b (doneIn k)) (v n l : ℕ) (next : Next)
+      (a : step (factsIn p o t) b (Free v n l) .answer ≡ Freed next) where
+    -- who is next waited
+    next-waiter : WaiterIn (doneIn k) next
+    unfolding timingIn
+    next-waiter = at next a
+      where
+        at : (y : Next) → step (factsIn p o t) b (Free v n l) .answer ≡ Freed y → WaiterIn (doneIn k) y
+        at Nobody a = tt
+        at (To w y) a =
+            let q = next-waited (pace .fair) (r .shaped) (r .is-good) v n l w y a in
+            record { v-in = q .0; n-in = q .1; unfinished = waiter-unfinished pace r w y (q .0) (q .1) (q .2) }
+
+    -- and is in range
+    pub next-named : NextIn next
+    next-named = at next next-waiter
+      where
+        at : (y : Next) → WaiterIn (doneIn k) y → NextIn y
+        at Nobody q = tt
+        at (To w y) q = (q .v-in, q .n-in)
+
+    -- the board after it
+    freed-mirrors : {k′ : List ℕ} → (let b′ = step (factsIn p o t) b (Free v n l) .board in PutFreed o t (b′ .left) (b′ .over) (b′ .stopped) (b′ .holder) v n next k k′) →
+        Mirrors (timingBy p o t x) x (step (factsIn p o t) b (Free v n l) .board) k′
+    unfolding timingIn factsIn holdsGlobal
+    freed-mirrors h =
+        free-mirrors m (pace .fair) (r .shaped) (r .is-good) v n l next a (h .held)
+        (next-put (doneIn k) (h .with-held) (h .with-next) (step (factsIn p o t) b (Free v n l) .board) next next-waiter (h .passed)) (h .holding) (put-supply-of (h .supply))
+
+    -- and b′, which is that board
+    pub freed-kept : (b′ : Board) → b′ ≡ step (factsIn p o t) b (Free v n l) .board → {k′ : List ℕ} → PutFreed o t (b′ .left) (b′ .over) (b′ .stopped) (b′ .holder) v n next k k′ →
+        Mirrors (timingBy p o t x) x b′ k′
+    freed-kept b′ e {k′} h =
+        subst (λ c. Mirrors (timingBy p o t x) x c k′) (sym e)
+        (freed-mirrors (subst (λ c. PutFreed o t (c .left) (c .over) (c .stopped) (c .holder) v n next k k′) e h))
+
+-- `freeing` OF m, 0 FOR NOTHING TO FREE: no refusal
+abbrev pub Frees : Facts → Board → ℕ → ℕ → ℕ → Type 0
+Frees F b v n m = (m ≡ 0 → ⊥) → isRefusal (step F b (Free v n m) .answer) ≡ false
+
+module _ {p : Policy} {o : OverrunChoice} {t x ls os : List ℕ} {ss : List Bool} {hs ws k : List ℕ} (g : Going p o t x ls os ss hs ws k) (v n m : ℕ) (i : InV v) (j : InN n)
+    (f : Frees (factsIn p o t) (boardOf ls os ss hs ws) v n m) (on : Bool) (e : ℕ) (a : List ℕ) (at : ℕ) where
+  -- no event where there is nothing to free
+  none-free : m ≡ 0 → freeOf v n m ≡ []
+  none-free z = ap (λ (y : Bool). if y then [] else Free v n m ∷ []) (eq-eqb m 0 z)
+
+  -- one where there is
+  one-free : (m ≡ 0 → ⊥) → freeOf v n m ≡ Free v n m ∷ []
+  one-free nz = ap (λ (y : Bool). if y then [] else Free v n m ∷ []) (ne-eqb m 0 nz)
+
+  -- nothing is freed
+  pub free-none : m ≡ 0 → Mirrors (timingBy p o t x) x (boardOf ls os ss hs ws) k
+      × (Made (factsIn p o t) on e (runIn ls os ss hs ws k) (runIn ls os ss hs ws k) (freeOf v n m) a at a at × (doneIn k ≡ doneIn k))
+  free-none z = (
+    g .mirrors,
+    (subst (λ es. Made (factsIn p o t) on e (runIn ls os ss hs ws k) (runIn ls os ss hs ws k) es a at a at) (sym (none-free z)) (made-none (factsIn p o t) on e (runIn ls os ss hs ws k) (runIn ls os ss hs ws k) a at refl), refl),
+  )
+
+  -- m is freed, and y is the answer
+  module _ (nz : m ≡ 0 → ⊥) {ss′ : List Bool} {hs′ ws′ : List ℕ} {y : BoardAnswer}
+      (q : record { answer = y; board = boardOf ls os ss′ hs′ ws′ } ≡ step (factsIn p o t) (boardOf ls os ss hs ws) (Free v n m)) where
+    -- the answer names who is next
+    answer-is : step (factsIn p o t) (boardOf ls os ss hs ws) (Free v n m) .answer ≡ Freed (nextIn y)
+    answer-is =
+        freed-answer (factsIn p o t) (boardOf ls os ss hs ws) v n m (f nz)
+        ∙ ap (λ (r : Outcome). Freed (nextIn (r .answer))) (sym q)
+
+    -- who is in range
+    pub free-named : NextIn (nextIn y)
+    unfolding timingIn
+    free-named = next-named p o t x (g .paced) (g .mirrors) (g .running) v n m (nextIn y) answer-is
+
+    -- there is room for its line
+    pub free-room : RoomAt on (linesAt (factsIn p o t) e (boardOf ls os ss hs ws) (freeOf v n m)) a at → RoomAt on (eventLine e (Free v n m) y) a at
+    free-room h =
+        room-one (factsIn p o t) on e (runIn ls os ss hs ws k) (runIn ls os ss′ hs′ ws′ k) (Free v n m) q a at
+        (subst (λ es. RoomAt on (linesAt (factsIn p o t) e (boardOf ls os ss hs ws) es) a at) (one-free nz) h)
+
+    -- all that holds then
+    pub free-one : {next : Next} {k′ : List ℕ} → next ≡ nextIn y → PutFreed o t ls os ss′ hs′ v n next k k′ → {c : List ℕ} {w : ℕ} →
+        w ≡ toldTo on (eventLine e (Free v n m) y) at → c ≡ toldAt on (eventLine e (Free v n m) y) a at →
+        Mirrors (timingBy p o t x) x (boardOf ls os ss′ hs′ ws′) k′
+        × (Made (factsIn p o t) on e (runIn ls os ss hs ws k) (runIn ls os ss′ hs′ ws′ k′) (freeOf v n m) a at c w × (doneIn k′ ≡ doneIn k))
+    unfolding timingIn
+    free-one {next} {k′} d h′ {c} {w} r z =
+        let h = subst (λ u. PutFreed o t ls os ss′ hs′ v n u k k′) d h′ in (
+          freed-kept p o t x (g .paced) (g .mirrors) (g .running) v n m (nextIn y) answer-is (boardOf ls os ss′ hs′ ws′) (ap (λ (s : Outcome). s .board) q) h,
+          (
+            subst (λ es. Made (factsIn p o t) on e (runIn ls os ss hs ws k) (runIn ls os ss′ hs′ ws′ k′) es a at c w) (sym (one-free nz))
+                (made-one (factsIn p o t) on e (runIn ls os ss hs ws k) (runIn ls os ss′ hs′ ws′ k′) (Free v n m) q refl z r),
+            freed-done i j free-named h,
+          ),
+        )

@@ -1,0 +1,325 @@
+// The idle uses and the work of a core's turn on the clock, on the board's arrays and what is kept beside them. What they are stands in specs/Clock of `clock_rules`.
+use board_rules::Board;
+use board_rules::BoardAnswer;
+use board_rules::Event;
+use board_rules::Next;
+use plan::OverrunChoice;
+use plan::Policy;
+ghost use mathlib.Core.Path.{_≡_};
+ghost use mathlib.Core.Bool.{true};
+ghost use mathlib.Core.List.{[], _∷_};
+ghost use Prim.Native.Nat.{_<_, _≤_};
+ghost use Rattle.board_supply.specs.Supplies.{underP};
+ghost use Rattle.board_rules.specs.View.{factsIn};
+ghost use Rattle.clock_rules.specs.Clock.{idleUses, freeOf, work, workDone};
+ghost use Rattle.clock_rules.specs.Trace.{linesAt};
+ghost use Rattle.clock_lines.specs.Told.{RoomAt};
+ghost use Rattle.clock_marks.specs.Marks.{Sized, Mirrors, boardOf, runIn, doneIn, doneCell, placeCell};
+ghost use Rattle.clock_mirrors.specs.Writes.{PutJob};
+ghost use Rattle.clock_going.specs.Going.{timingBy, Going, Made};
+ghost use Rattle.clock_works.specs.Using.{AfterUse};
+ghost use Rattle.clock_works.specs.Freed.{nextIn, NextIn, heldAt, Handed, Passed, PutFreed, Frees};
+ghost use Rattle.clock_works.specs.Worked.{WorkerOn, placeWith, OneMore};
+
+// What is kept of the supply of v after a tick of it is used: nothing changes while budget is left.
+fn after_use(
+    choice: OverrunChoice,
+    left: &[u64],
+    over: &[u64],
+    stopped: &[bool],
+    marks: &mut [u64],
+    v: u64,
+)
+    requires { ⌜ Sized (now marks) × (0 < v) × (v ≤ 16) ⌝ }
+    ensures { λ out. ⌜ AfterUse choice (now (left .entry)) (now (over .entry)) (now (stopped .entry)) (now (marks .entry)) (now (marks .exit)) v ⌝ }
+{
+    if board_seats::figure(left, v) == 0 {
+        clock_puts::put_supply(choice, left, over, stopped, marks, v);
+    }
+}
+
+// One tick of v is used.
+fn use_one(
+    on: bool,
+    policy: Policy,
+    choice: OverrunChoice,
+    view: &[u64],
+    times: &[u64],
+    left: &mut [u64],
+    over: &mut [u64],
+    stopped: &mut [bool],
+    holder: &[u16],
+    waits: &[u8],
+    marks: &mut [u64],
+    v: u64,
+    t: u64,
+    out: &mut [u8],
+    at: usize,
+) -> usize
+    requires { ⌜ (0 < v) × (v ≤ 16) × Going policy choice (now view) (now times) (now left) (now over) (now stopped) (now holder) (now waits) (now marks) ⌝ }
+    requires { ⌜ RoomAt on (linesAt (factsIn policy choice (now view)) t (boardOf (now left) (now over) (now stopped) (now holder) (now waits)) (Event.Use v 1 ∷ [])) (now out) at ⌝ }
+    ensures { λ r. ⌜ Going policy choice (now (view .entry)) (now (times .entry)) (now (left .exit)) (now (over .exit)) (now (stopped .exit)) (now (holder .entry)) (now (waits .entry)) (now (marks .exit)) ⌝ }
+    ensures { λ r. ⌜ Made (factsIn policy choice (now (view .entry))) on t (runIn (now (left .entry)) (now (over .entry)) (now (stopped .entry)) (now (holder .entry)) (now (waits .entry)) (now (marks .entry))) (runIn (now (left .exit)) (now (over .exit)) (now (stopped .exit)) (now (holder .entry)) (now (waits .entry)) (now (marks .exit))) (Event.Use v 1 ∷ []) (now (out .entry)) at (now (out .exit)) r ⌝ }
+    ensures { λ r. ⌜ doneIn (now (marks .exit)) ≡ doneIn (now (marks .entry)) ⌝ }
+{
+    let a = Board::use_in(policy, choice, view, left, over, stopped, holder, v, 1);
+    after_use(choice, left, over, stopped, marks, v);
+    clock_lines::tell(on, out, at, t, Event::Use { v, t: 1 }, a)
+}
+
+// Each VCPU of core c with budget and no ready task loses a tick.
+pub fn idle_uses(
+    on: bool,
+    policy: Policy,
+    choice: OverrunChoice,
+    view: &[u64],
+    times: &[u64],
+    left: &mut [u64],
+    over: &mut [u64],
+    stopped: &mut [bool],
+    holder: &[u16],
+    waits: &[u8],
+    marks: &mut [u64],
+    c: u64,
+    t: u64,
+    out: &mut [u8],
+    at: usize,
+) -> usize
+    requires { ⌜ (c ≤ 3) × (underP policy ≡ true) × Going policy choice (now view) (now times) (now left) (now over) (now stopped) (now holder) (now waits) (now marks) ⌝ }
+    requires { ⌜ RoomAt on (linesAt (factsIn policy choice (now view)) t (boardOf (now left) (now over) (now stopped) (now holder) (now waits)) (idleUses (timingBy policy choice (now view) (now times)) c (boardOf (now left) (now over) (now stopped) (now holder) (now waits)) (doneIn (now marks)))) (now out) at ⌝ }
+    ensures { λ r. ⌜ Going policy choice (now (view .entry)) (now (times .entry)) (now (left .exit)) (now (over .exit)) (now (stopped .exit)) (now (holder .entry)) (now (waits .entry)) (now (marks .exit)) ⌝ }
+    ensures { λ r. ⌜ Made (factsIn policy choice (now (view .entry))) on t (runIn (now (left .entry)) (now (over .entry)) (now (stopped .entry)) (now (holder .entry)) (now (waits .entry)) (now (marks .entry))) (runIn (now (left .exit)) (now (over .exit)) (now (stopped .exit)) (now (holder .entry)) (now (waits .entry)) (now (marks .exit))) (idleUses (timingBy policy choice (now (view .entry)) (now (times .entry))) c (boardOf (now (left .entry)) (now (over .entry)) (now (stopped .entry)) (now (holder .entry)) (now (waits .entry))) (doneIn (now (marks .entry)))) (now (out .entry)) at (now (out .exit)) r ⌝ }
+    ensures { λ r. ⌜ doneIn (now (marks .exit)) ≡ doneIn (now (marks .entry)) ⌝ }
+{
+    let mut w = at;
+    let mut rest = clock_picks::idlers(marks, c);
+    while rest != 0 {
+        let v = clock_sets::lowest_in(rest);
+        w = use_one(
+            on,
+            policy,
+            choice,
+            view,
+            times,
+            left,
+            over,
+            stopped,
+            holder,
+            waits,
+            marks,
+            v,
+            t,
+            out,
+            w,
+        );
+        rest = clock_sets::without(rest, v);
+    }
+    w
+}
+
+// Who gets the freed mutex.
+fn next_in(a: BoardAnswer) -> Next
+    ensures { λ r. ⌜ r ≡ nextIn a ⌝ }
+{
+    match a {
+        BoardAnswer::Granted => Next::Nobody,
+        BoardAnswer::Waits => Next::Nobody,
+        BoardAnswer::Freed(w) => w,
+        BoardAnswer::Left { b: _, o: _ } => Next::Nobody,
+        BoardAnswer::Shows { task: _, vcpu: _ } => Next::Nobody,
+        BoardAnswer::Refused(_) => Next::Nobody,
+    }
+}
+
+// What task (w, x) holds, by the holders.
+fn held_now(view: &[u64], holder: &[u16], w: u64, x: u64) -> u64
+    requires { ⌜ (w ≤ 16) × (x ≤ 8) ⌝ }
+    ensures { λ r. ⌜ r ≡ heldAt (now (view .entry)) (now (holder .entry)) w x ⌝ }
+{
+    if board_walks::held_global(view, holder, w, x) {
+        return 33;
+    }
+    board_walks::held_local(view, holder, w, x)
+}
+
+// Task (w, x), who waited, has been handed a mutex.
+fn handed(view: &[u64], holder: &[u16], marks: &mut [u64], w: u64, x: u64)
+    requires { ⌜ Sized (now marks) × (0 < w) × (w ≤ 16) × (0 < x) × (x ≤ 8) ⌝ }
+    ensures { λ out. ⌜ Handed (now (view .entry)) (now (holder .entry)) w x (now (marks .entry)) (now (marks .exit)) ⌝ }
+{
+    let m = held_now(view, holder, w, x);
+    clock_puts::put_held(marks, w, x, m);
+    clock_puts::put_ready(marks, w, x, true);
+    let global = board_walks::holds_global(view, holder, w);
+    clock_puts::put_in(marks, clock_puts::HOLDING, w, global);
+}
+
+// The next one has the mutex, where there is one.
+fn passed(view: &[u64], holder: &[u16], marks: &mut [u64], next: Next)
+    requires { ⌜ Sized (now marks) × NextIn next ⌝ }
+    ensures { λ out. ⌜ Passed (now (view .entry)) (now (holder .entry)) next (now (marks .entry)) (now (marks .exit)) ⌝ }
+{
+    match next {
+        Next::Nobody => {}
+        Next::To { v: w, n: x } => handed(view, holder, marks, w, x),
+    }
+}
+
+// Task (v, n) has freed its mutex, and the next one has it.
+fn after_free(
+    choice: OverrunChoice,
+    view: &[u64],
+    left: &[u64],
+    over: &[u64],
+    stopped: &[bool],
+    holder: &[u16],
+    marks: &mut [u64],
+    v: u64,
+    n: u64,
+    next: Next,
+)
+    requires { ⌜ Sized (now marks) × (0 < v) × (v ≤ 16) × (0 < n) × (n ≤ 8) × NextIn next ⌝ }
+    ensures { λ out. ⌜ PutFreed choice (now (view .entry)) (now (left .entry)) (now (over .entry)) (now (stopped .entry)) (now (holder .entry)) v n next (now (marks .entry)) (now (marks .exit)) ⌝ }
+{
+    clock_puts::put_held(marks, v, n, 0);
+    passed(view, holder, marks, next);
+    let global = board_walks::holds_global(view, holder, v);
+    clock_puts::put_in(marks, clock_puts::HOLDING, v, global);
+    clock_puts::put_supply(choice, left, over, stopped, marks, v);
+}
+
+// Task (v, n) frees m, where a section is finished.
+fn freeing(
+    on: bool,
+    policy: Policy,
+    choice: OverrunChoice,
+    view: &[u64],
+    times: &[u64],
+    left: &[u64],
+    over: &[u64],
+    stopped: &mut [bool],
+    holder: &mut [u16],
+    waits: &mut [u8],
+    marks: &mut [u64],
+    v: u64,
+    n: u64,
+    m: u64,
+    t: u64,
+    out: &mut [u8],
+    at: usize,
+) -> usize
+    requires { ⌜ (0 < v) × (v ≤ 16) × (0 < n) × (n ≤ 8) × Going policy choice (now view) (now times) (now left) (now over) (now stopped) (now holder) (now waits) (now marks) × Frees (factsIn policy choice (now view)) (boardOf (now left) (now over) (now stopped) (now holder) (now waits)) v n m ⌝ }
+    requires { ⌜ RoomAt on (linesAt (factsIn policy choice (now view)) t (boardOf (now left) (now over) (now stopped) (now holder) (now waits)) (freeOf v n m)) (now out) at ⌝ }
+    ensures { λ r. ⌜ Mirrors (timingBy policy choice (now (view .entry)) (now (times .entry))) (now (times .entry)) (boardOf (now (left .entry)) (now (over .entry)) (now (stopped .exit)) (now (holder .exit)) (now (waits .exit))) (now (marks .exit)) ⌝ }
+    ensures { λ r. ⌜ Made (factsIn policy choice (now (view .entry))) on t (runIn (now (left .entry)) (now (over .entry)) (now (stopped .entry)) (now (holder .entry)) (now (waits .entry)) (now (marks .entry))) (runIn (now (left .entry)) (now (over .entry)) (now (stopped .exit)) (now (holder .exit)) (now (waits .exit)) (now (marks .exit))) (freeOf v n m) (now (out .entry)) at (now (out .exit)) r ⌝ }
+    ensures { λ r. ⌜ doneIn (now (marks .exit)) ≡ doneIn (now (marks .entry)) ⌝ }
+{
+    if m == 0 {
+        return at;
+    }
+    let a = Board::free_in(policy, choice, view, left, stopped, holder, waits, v, n, m);
+    after_free(
+        choice,
+        view,
+        left,
+        over,
+        stopped,
+        holder,
+        marks,
+        v,
+        n,
+        next_in(a),
+    );
+    clock_lines::tell(on, out, at, t, Event::Free { v, n, m }, a)
+}
+
+// d ticks are done of the job of (v, n), and one more section has ended where m is not 0.
+fn put_job(marks: &mut [u64], v: u64, n: u64, m: u64, d: u64)
+    requires { ⌜ Sized (now marks) × (0 < v) × (v ≤ 16) × (0 < n) × (n ≤ 8) × (placeCell (now marks) v n ≤ 8) ⌝ }
+    ensures { λ out. ⌜ PutJob (now (marks .entry)) (now (marks .exit)) v n d (placeWith m (placeCell (now (marks .entry)) v n)) ⌝ }
+{
+    clock_puts::put_done(marks, v, n, d);
+    if m != 0 {
+        let q = clock_puts::place(marks, v, n) + 1;
+        clock_puts::put_place(marks, v, n, q);
+    }
+}
+
+// One more tick is done of the job of (v, n), and the section on m has ended where m is not 0.
+fn one_more(times: &[u64], marks: &mut [u64], v: u64, n: u64, m: u64)
+    requires { ⌜ Sized (now marks) × (0 < v) × (v ≤ 16) × (0 < n) × (n ≤ 8) × (doneCell (now marks) v n ≤ 17000000) × (placeCell (now marks) v n ≤ 8) ⌝ }
+    ensures { λ out. ⌜ OneMore (now (times .entry)) v n m (now (marks .entry)) (now (marks .exit)) ⌝ }
+{
+    let d = clock_puts::done(marks, v, n) + 1;
+    let e = board_seats::at(times, 159 + board_seats::seat(v, n));
+    put_job(marks, v, n, m, d);
+    if d == e {
+        clock_puts::put_ready(marks, v, n, false);
+    }
+}
+
+// The picked task uses one tick; a finished section is freed at once.
+pub fn work(
+    on: bool,
+    policy: Policy,
+    choice: OverrunChoice,
+    view: &[u64],
+    times: &[u64],
+    left: &mut [u64],
+    over: &mut [u64],
+    stopped: &mut [bool],
+    holder: &mut [u16],
+    waits: &mut [u8],
+    marks: &mut [u64],
+    v: u64,
+    n: u64,
+    t: u64,
+    out: &mut [u8],
+    at: usize,
+) -> usize
+    requires { ⌜ Going policy choice (now view) (now times) (now left) (now over) (now stopped) (now holder) (now waits) (now marks) × WorkerOn (timingBy policy choice (now view) (now times)) (boardOf (now left) (now over) (now stopped) (now holder) (now waits)) (doneIn (now marks)) v n ⌝ }
+    requires { ⌜ RoomAt on (linesAt (factsIn policy choice (now view)) t (boardOf (now left) (now over) (now stopped) (now holder) (now waits)) (work (timingBy policy choice (now view) (now times)) (doneIn (now marks)) (Next.To v n))) (now out) at ⌝ }
+    ensures { λ r. ⌜ Going policy choice (now (view .entry)) (now (times .entry)) (now (left .exit)) (now (over .exit)) (now (stopped .exit)) (now (holder .exit)) (now (waits .exit)) (now (marks .exit)) ⌝ }
+    ensures { λ r. ⌜ Made (factsIn policy choice (now (view .entry))) on t (runIn (now (left .entry)) (now (over .entry)) (now (stopped .entry)) (now (holder .entry)) (now (waits .entry)) (now (marks .entry))) (runIn (now (left .exit)) (now (over .exit)) (now (stopped .exit)) (now (holder .exit)) (now (waits .exit)) (now (marks .exit))) (work (timingBy policy choice (now (view .entry)) (now (times .entry))) (doneIn (now (marks .entry))) (Next.To v n)) (now (out .entry)) at (now (out .exit)) r ⌝ }
+    ensures { λ r. ⌜ doneIn (now (marks .exit)) ≡ workDone (doneIn (now (marks .entry))) (Next.To v n) ⌝ }
+{
+    let used = use_one(
+        on,
+        policy,
+        choice,
+        view,
+        times,
+        left,
+        over,
+        stopped,
+        holder,
+        waits,
+        marks,
+        v,
+        t,
+        out,
+        at,
+    );
+    let m = clock_picks::over(times, marks, v, n);
+    let freed = freeing(
+        on,
+        policy,
+        choice,
+        view,
+        times,
+        left,
+        over,
+        stopped,
+        holder,
+        waits,
+        marks,
+        v,
+        n,
+        m,
+        t,
+        out,
+        used,
+    );
+    one_more(times, marks, v, n, m);
+    freed
+}
