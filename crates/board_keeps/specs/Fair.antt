@@ -2,19 +2,8 @@
 use Prim.Native.Nat.{ℕ, _≤_, _<_}
 use mathlib.Core.Path.{_≡_}
 use mathlib.Core.Bool.{true, false}
-use Rattle.laws.specs.Range.{OneTo}
-use Rattle.plan.specs.Limits.{maxV, maxM, mostN}
 use Rattle.board_rules.specs.Facts.{Facts}
-
--- v, n and m are names that a board has places for
-abbrev pub InV : ℕ → Type 0
-InV v = OneTo maxV v
-
-abbrev pub InN : ℕ → Type 0
-InN n = OneTo mostN n
-
-abbrev pub InM : ℕ → Type 0
-InM m = OneTo maxM m
+pub use Rattle.board_rules.specs.Names.{InV, InN, InM}
 
 pub record Fair (F : Facts) : Type 0 where
   -- a VCPU of the plan is in range and has a budget; another has neither budget nor overrun

@@ -14,6 +14,7 @@ use Rattle.plan.specs.Limits.{maxV, maxM, mostN}
 use Rattle.board_rules.specs.Facts.{Facts}
 use Rattle.board_rules.specs.declared.Board.{Board}
 use Rattle.board_rules.specs.Board.{seat, leftOf, overOf, isStopped, holderOf, waitOf, holds, heldByOther, passes, underP, mustStop, budgetsGood, markGood, holdGood, waitGood, seatGood, good}
+use Rattle.board_rules.specs.Settle.{Marked}
 use Rattle.board_keeps.specs.Fair.{Fair, InV, InN, InM, sheet-m}
 use Rattle.board_keeps.specs.Locks.{Barred, Holding, Waiting}
 
@@ -56,10 +57,6 @@ pub record Sound (F : Facts) (b : Board) : Type 0 where
   pub budgets : (v : ℕ) → InV v → Budgeted F v (leftOf b v) (overOf b v) (isStopped b v)
   pub holding : Holding F (holderOf b) (waitOf b)
   pub waiting : Waiting F (holderOf b) (waitOf b)
-
--- a mark stands where it is due
-abbrev pub Marked : Facts → Board → Type 0
-Marked F b = (v : ℕ) → InV v → isStopped b v ≡ false → mustStop F b v ≡ false
 
 -- the parts of the test: of a VCPU, and of a task
 abbrev vcpuGood : Facts → Board → ℕ → Bool

@@ -9,7 +9,7 @@ use native.Mathlib.Decide.{decLe}
 use borrow.Author.Tests.{eqb-false}
 use lib.ListN.{getD, set}
 use Rattle.laws.specs.Choice.{if_then_else_}
-use Rattle.laws.specs.BoolLaws.{neither-right, clash, bool-cases, same-or-not, either-of}
+use Rattle.laws.specs.BoolLaws.{clash, bool-cases, same-or-not, either-of}
 use Rattle.plan.specs.declared.Fault.{Fault}
 use Rattle.plan.specs.declared.Fault.the-variants.{Clear, Bad}
 use Rattle.board_rules.specs.Facts.{Facts}
@@ -17,15 +17,18 @@ use Rattle.board_rules.specs.declared.Board.{Board}
 use Rattle.board_rules.specs.declared.Event.{Event}
 use Rattle.board_rules.specs.declared.Event.the-variants.{Ask, Free, Use, Top, Show}
 use Rattle.board_rules.specs.declared.Next.{Next}
-use Rattle.board_rules.specs.Board.{seat, leftOf, overOf, isStopped, holderOf, waitOf, holdsGlobal, mustStop, settled, withLeft, withStopped, withHolder, withWait, handedTo, grantedLocal, mayHave, asked, freed, freedGlobal, freedLocal, used, topped, shown, answered, askFault, freeFault, useFault, topFault, showFault, step, good}
+use Rattle.board_rules.specs.Board.{seat, leftOf, overOf, isStopped, holderOf, waitOf, mustStop, settled, withLeft, withStopped, withHolder, withWait, handedTo, grantedLocal, mayHave, asked, freed, freedGlobal, freedLocal, used, topped, shown, answered, askFault, freeFault, useFault, topFault, showFault, step, good}
+use Rattle.board_rules.specs.Names.{seat-one, seat-some}
+use Rattle.board_rules.specs.Change.{left-else, over-else, stopped-else, holder-else, wait-else}
+use Rattle.board_rules.specs.LocalNext.{LocalNext, no-waiter, top-fails, top-passes, local-next, LocalWait}
+use Rattle.board_rules.specs.Settle.{due, settled-stopped, settled-marked}
 use Rattle.board_keeps.specs.Fair.{Fair, InV, InN, InM, task-v, sheet-v, sheet-n, sheet-m}
 use Rattle.board_keeps.specs.Shaped.{Shaped, holder-shaped}
 use Rattle.board_keeps.specs.Locks.{Barred, Holding}
-use Rattle.board_keeps.specs.Good.{Budgeted, Sound, Marked, barred, good-sound, sound-good}
-use Rattle.board_keeps.specs.Change.{seat-one, seat-some, left-new, over-new, stopped-new, left-else, over-else, stopped-else, holder-new, holder-else, wait-new, wait-else}
-use Rattle.board_keeps.specs.Nexts.{GlobalNext, none-waits, top-waiter, global-next, LocalNext, no-waiter, top-fails, top-passes, local-next, LocalWait}
+use Rattle.board_keeps.specs.Good.{Budgeted, Sound, barred, good-sound, sound-good}
+use Rattle.board_keeps.specs.Change.{left-new, over-new, stopped-new, holder-new, wait-new}
+use Rattle.board_keeps.specs.Nexts.{GlobalNext, none-waits, top-waiter, global-next}
 use Rattle.board_keeps.specs.Faults.{AskClear, FreeClear, ask-clear, free-clear, use-clear, top-clear, may-free}
-use Rattle.board_keeps.specs.Settle.{due, settled-stopped}
 use Rattle.board_keeps.specs.Moves.{HoldersBut, WaitsBut, WaitsFrom, waits-from, release-holding, grant-holding, clear-holding, await-holding, grant-waiting, await-waiting, global-waiting, local-waiting}
 
 -- A SETTLED BOARD IS GOOD where the board before was sound
@@ -47,10 +50,6 @@ settled-sound {F} {b} s = record { budgets = each; holding = s .holding; waiting
           mark-vcpu = λ e. ⊎-elim (r .mark-vcpu) (λ d. due F b v d .vcpu) (marked e);
           mark-left = λ e. ⊎-elim (r .mark-left) (λ d. due F b v d .left) (marked e);
         }
-
-settled-marked : (F : Facts) (b : Board) → Marked F (settled F b)
-unfolding settled mustStop holdsGlobal
-settled-marked F b v i e = neither-right (isStopped b v) (mustStop F b v) (sym (settled-stopped F b v i) ∙ e)
 
 pub settled-good : {F : Facts} {b : Board} → Fair F → Sound F b → good F (settled F b) ≡ true
 settled-good {F} {b} f s = sound-good F (settled F b) f (settled-sound s) (settled-marked F b)

@@ -22,11 +22,13 @@ use Rattle.board_rules.specs.declared.Next.{Next}
 use Rattle.board_rules.specs.declared.Next.the-variants.{Nobody, To}
 use Rattle.board_rules.specs.Board.{leftOf, overOf, isStopped, holdsGlobal, reserve, supply, settled, withLeft, withHolder, handedTo, grantedLocal, nextGlobal, nextLocal, fresh, mayHave, asked, freed, freedGlobal, freedLocal, used, topped, shown, answered, askFault, freeFault, useFault, topFault, showFault, step}
 use Rattle.board_rules.specs.Events.{answers, boardAfter, answersBy, boardBy}
+use Rattle.board_rules.specs.Change.{left-else, over-else}
+use Rattle.board_rules.specs.Marked.{fresh-left}
 use Rattle.board_keeps.specs.Fair.{Fair, InV}
 use Rattle.board_keeps.specs.Shaped.{Shaped, fresh-shaped, step-shaped}
-use Rattle.board_keeps.specs.Change.{left-new, over-new, left-else, over-else}
+use Rattle.board_keeps.specs.Change.{left-new, over-new}
 use Rattle.board_keeps.specs.Faults.{use-clear, top-clear}
-use Rattle.board_keeps.specs.Runs.{fresh-left, fresh-over}
+use Rattle.board_keeps.specs.Runs.{fresh-over}
 use Rattle.board_keeps.specs.Ledger.{accepted, entered, ledger}
 
 -- supply is at most what is left of budget and overrun

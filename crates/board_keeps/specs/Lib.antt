@@ -4,9 +4,7 @@ pub mod Locks
 pub mod Good
 pub mod Change
 pub mod Nexts
-pub mod Settle
 pub mod Faults
-pub mod SettleEvents
 pub mod Marks
 pub mod Moves
 pub mod Keeps

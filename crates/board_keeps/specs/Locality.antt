@@ -12,14 +12,16 @@ use Rattle.board_rules.specs.declared.Board.{Board}
 use Rattle.board_rules.specs.declared.Event.the-variants.{Ask, Free}
 use Rattle.board_rules.specs.declared.Next.{Next}
 use Rattle.board_rules.specs.Board.{seat, isStopped, holderOf, waitOf, settled, withHolder, withWait, grantedLocal, mayHave, asked, freed, freedLocal, answered, askFault, freeFault, step, good}
+use Rattle.board_rules.specs.Names.{seat-one}
+use Rattle.board_rules.specs.Change.{stopped-else, holder-else, wait-else}
+use Rattle.board_rules.specs.LocalNext.{LocalNext, no-waiter, top-fails, top-passes, local-next}
+use Rattle.board_rules.specs.Settle.{settledAt}
+use Rattle.board_rules.specs.SettleEvents.{settle-grant, settle-wait, settle-local}
 use Rattle.board_keeps.specs.Fair.{Fair, InV, InN, InM, task-v, sheet-v, sheet-n, sheet-m}
 use Rattle.board_keeps.specs.Shaped.{Shaped, holder-shaped}
-use Rattle.board_keeps.specs.Good.{good-sound}
-use Rattle.board_keeps.specs.Change.{seat-one, stopped-else, holder-else, wait-new, wait-else}
-use Rattle.board_keeps.specs.Nexts.{LocalNext, no-waiter, top-fails, top-passes, local-next}
+use Rattle.board_keeps.specs.Good.{good-marked, good-sound}
+use Rattle.board_keeps.specs.Change.{wait-new}
 use Rattle.board_keeps.specs.Faults.{ask-clear, FreeClear, free-clear}
-use Rattle.board_keeps.specs.Settle.{settledAt}
-use Rattle.board_keeps.specs.SettleEvents.{settle-grant, settle-wait, settle-local}
 
 -- what b′ leaves of b: all budgets and overruns; marks and waits of VCPUs other than v; mutexes that are not local to v, and who waits for a global one
 pub record Untouched (F : Facts) (v : ℕ) (b b′ : Board) : Type 0 where
@@ -113,8 +115,8 @@ module _ {F : Facts} {b : Board} (f : Fair F) (s : Shaped b) (g : good F b ≡ t
           let l = c .listed in
           let i = sheet-v f v n m l in
           ⊎-elim
-          (λ h. rw h (settled-untouched v i (withHolder b m (seat v n)) (settle-grant F s g v n m i (sheet-m f v n m l) h) (holder-untouched v i b m (seat v n) (sheet-m f v n m l) loc (untouched F v b))))
-          (λ h. rw h (settled-untouched v i (withWait b v n m) (settle-wait F s g v n m i) (wait-untouched v i b n m s (sheet-n f v n m l) (λ k j g z. none-global F k j g (sym (c .no-wait) ∙ z)) (local-global f v m loc) (untouched F v b))))
+          (λ h. rw h (settled-untouched v i (withHolder b m (seat v n)) (settle-grant F b (s .stopped-long) (good-marked F b g) v n m i (sheet-m f v n m l) h) (holder-untouched v i b m (seat v n) (sheet-m f v n m l) loc (untouched F v b))))
+          (λ h. rw h (settled-untouched v i (withWait b v n m) (settle-wait F b (s .stopped-long) (good-marked F b g) v n m i) (wait-untouched v i b n m s (sheet-n f v n m l) (λ k j g z. none-global F k j g (sym (c .no-wait) ∙ z)) (local-global f v m loc) (untouched F v b))))
           (bool-cases (mayHave F b v n m))
       at-fault (Bad r) e = untouched F v b
 
@@ -136,7 +138,7 @@ module _ {F : Facts} {b : Board} (f : Fair F) (s : Shaped b) (g : good F b ≡ t
           let c = free-clear F b v n m e in
           let is-local = f .local-only v m loc in
           let i = task-v f v n (c .task) in
-          rw is-local (settled-untouched v i _ (settle-local F s g v m i (f .mutex-in m (c .mutex)) is-local (f .local-only v)) (to c (local-next F (withHolder b m 0) v)))
+          rw is-local (settled-untouched v i _ (settle-local F b (s .stopped-long) (good-marked F b g) v m i (f .mutex-in m (c .mutex)) is-local (f .local-only v)) (to c (local-next F (withHolder b m 0) v)))
       at-fault (Bad r) e = untouched F v b
 
 -- a task of another VCPU asks for a local mutex of v, or frees it: nothing changes

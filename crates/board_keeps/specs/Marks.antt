@@ -15,9 +15,10 @@ use Rattle.board_rules.specs.declared.Event.the-variants.{Ask, Free, Use, Top, 
 use Rattle.board_rules.specs.Board.{isStopped, settled, withLeft, withHolder, nextGlobal, nextLocal, mayHave, asked, freed, freedGlobal, freedLocal, used, topped, shown, answered, askFault, freeFault, useFault, topFault, showFault, step, good}
 use Rattle.board_keeps.specs.Fair.{Fair, InV, task-v, sheet-v, sheet-m}
 use Rattle.board_keeps.specs.Shaped.{Shaped, left-shaped, stopped-shaped, holder-shaped, wait-shaped, handed-shaped, granted-shaped}
+use Rattle.board_keeps.specs.Good.{good-marked}
 use Rattle.board_keeps.specs.Faults.{FreeClear, ask-clear, free-clear, use-clear, top-clear}
-use Rattle.board_keeps.specs.Settle.{settledAt}
-use Rattle.board_keeps.specs.SettleEvents.{OthersKeep, keep-settles, keep-mark, wait-keeps, grant-keeps, global-keeps, local-keeps, use-keeps, top-keeps}
+use Rattle.board_rules.specs.Settle.{settledAt}
+use Rattle.board_rules.specs.SettleEvents.{OthersKeep, own-held, keep-settles, keep-mark, wait-keeps, grant-keeps, global-keeps, local-keeps, use-keeps, top-keeps}
 
 -- the v that each event names
 abbrev pub ownVcpu : Event → ℕ
@@ -54,7 +55,7 @@ module _ {F : Facts} {b : Board} (f : Fair F) (s : Shaped b) where
       at-kind : FreeClear F b v n m → (t : Bool) → F .global m ≡ t → OwnChange F v b ((if t then freedGlobal F b m else freedLocal F b v m) .board)
       at-kind c true e =
           let i = task-v f v n (c .task) in
-          completes _ (handed-shaped m (nextGlobal b m) s) i (global-keeps F b v n m i (f .task-in v n (c .task)) (f .mutex-in m (c .mutex)) (c .held) (nextGlobal b m))
+          completes _ (handed-shaped m (nextGlobal b m) s) i (global-keeps F b v m (f .mutex-in m (c .mutex)) (own-held b v n m i (f .task-in v n (c .task)) (c .held)) (nextGlobal b m))
       at-kind c false e =
           completes _ (granted-shaped {b = withHolder b m 0} (nextLocal F (withHolder b m 0) v) (holder-shaped m 0 s)) (task-v f v n (c .task))
           (local-keeps F b v m (f .mutex-in m (c .mutex)) e (f .local-only v))
@@ -99,11 +100,11 @@ module _ {F : Facts} {b : Board} (f : Fair F) (s : Shaped b) where
 module _ {F : Facts} {b : Board} (g : good F b ≡ true) {v : ℕ} where
   change-mark : {c : Board} → OwnChange F v b c → (w : ℕ) → InV w → (w ≡ v → ⊥) → isStopped c w ≡ isStopped b w
   change-mark stays w j ne = refl
-  change-mark (completes b′ s i k) w j ne = keep-mark F g k w j ne
+  change-mark (completes b′ s i k) w j ne = keep-mark F (good-marked F b g) k w j ne
 
   change-settles : {c : Board} → OwnChange F v b c → (c ≡ b) ⊎ ((b′ : Board) × OthersKeep F v b b′ × (c ≡ settled F b′) × (settled F b′ ≡ settledAt F b′ v))
   change-settles stays = inl refl
-  change-settles (completes b′ s i k) = inr (b′, k, refl, keep-settles F g k s i)
+  change-settles (completes b′ s i k) = inr (b′, k, refl, keep-settles F (good-marked F b g) k (s .stopped-long) i)
 
 module _ {F : Facts} {b : Board} (f : Fair F) (s : Shaped b) (g : good F b ≡ true) (e : Event) where
   -- only the mark of the event's own VCPU can change

@@ -7,9 +7,9 @@ use native.Mathlib.Omega.{arith}
 use Rattle.laws.specs.BoolLaws.{clash, same-or-not}
 use Rattle.board_rules.specs.Facts.{Facts}
 use Rattle.board_rules.specs.Board.{seat}
+use Rattle.board_rules.specs.Names.{seat-one, seat-some, seat-to}
 use Rattle.board_keeps.specs.Fair.{Fair, InV, InN, InM, sheet-m}
 use Rattle.board_keeps.specs.Locks.{Barred, Holding, Waiting}
-use Rattle.board_keeps.specs.Change.{seat-one, seat-some, seat-to}
 
 -- H′ is H at every mutex but m; W′ is W at every task but (v, n)
 abbrev pub HoldersBut : ℕ → (ℕ → ℕ) → (ℕ → ℕ) → Type 0

@@ -6,27 +6,23 @@ use mathlib.Core.List.{List, [], _∷_}
 use mathlib.Core.Logic.{inl}
 use native.Mathlib.Omega.{arith}
 use Rattle.laws.specs.RangeLaws.{list-at}
-use Rattle.laws.specs.BoolLaws.{clash, is-false}
+use Rattle.laws.specs.BoolLaws.{clash}
 use Rattle.plan.specs.Limits.{maxV, maxM, mostN}
 use Rattle.board_rules.specs.Facts.{Facts}
 use Rattle.board_rules.specs.declared.Board.{Board}
 use Rattle.board_rules.specs.declared.Event.{Event}
-use Rattle.board_rules.specs.Board.{seat, leftOf, overOf, isStopped, holderOf, waitOf, mustStop, fresh, step, good, stepOn}
+use Rattle.board_rules.specs.Board.{seat, leftOf, overOf, isStopped, holderOf, waitOf, fresh, step, good, stepOn}
 use Rattle.board_rules.specs.Events.{boardAfter, boardBy}
+use Rattle.board_rules.specs.Names.{seat-some}
+use Rattle.board_rules.specs.Marked.{fresh-left, fresh-marked}
 use Rattle.board_keeps.specs.Fair.{Fair, InV, InN, InM}
 use Rattle.board_keeps.specs.Shaped.{Shaped, fresh-shaped, step-shaped}
-use Rattle.board_keeps.specs.Good.{Budgeted, Sound, Marked, sound-good}
-use Rattle.board_keeps.specs.Change.{seat-some}
-use Rattle.board_keeps.specs.Settle.{due}
+use Rattle.board_keeps.specs.Good.{Budgeted, Sound, sound-good}
 use Rattle.board_keeps.specs.Keeps.{step-keeps}
 
 -- A FRESH BOARD: full budgets, no mark, no holder, no wait
 
 module _ (F : Facts) where
-  pub fresh-left : (v : ℕ) → InV v → leftOf (fresh F) v ≡ F .budget v
-  unfolding fresh
-  fresh-left v i = list-at maxV (v - 1) (F .budget) 0 (omega arith) ∙ ap (F .budget) {x = suc (v - 1)} {y = v} (omega arith)
-
   pub fresh-over : (v : ℕ) → InV v → overOf (fresh F) v ≡ F .overrun v
   unfolding fresh
   fresh-over v i = list-at maxV (v - 1) (F .overrun) 0 (omega arith) ∙ ap (F .overrun) {x = suc (v - 1)} {y = v} (omega arith)
@@ -73,15 +69,8 @@ fresh-sound F = record {
   };
 }
 
-fresh-marked : {F : Facts} → Fair F → Marked F (fresh F)
-fresh-marked {F} f v i e =
-    is-false (mustStop F (fresh F) v) (λ t.
-    let d = due F (fresh F) v t in
-    let h = f .vcpu-budget v (d .vcpu) in
-    let z = sym (d .left) ∙ fresh-left F v i in omega arith)
-
 pub fresh-good : {F : Facts} → Fair F → good F (fresh F) ≡ true
-fresh-good {F} f = sound-good F (fresh F) f (fresh-sound F) (fresh-marked f)
+fresh-good {F} f = sound-good F (fresh F) f (fresh-sound F) (fresh-marked F (f .vcpu-budget))
 
 -- RUNS
 

@@ -1,12 +1,16 @@
 -- Other forms of the board's rules, as its code has them, and that they agree.
-use Prim.Native.Nat.{ℕ}
-use mathlib.Core.Path.{_≡_, refl, ap}
+use Prim.Native.Nat.{ℕ, _+_, _-_, _*_, _/_, _%_}
+use mathlib.Core.Path.{_≡_, refl, sym, ap, _∙_}
 use mathlib.Core.List.{List}
 use mathlib.Core.Bool.{Bool, true, false, _&&_}
+use mathlib.Core.Logic.{_↔_}
+use native.Mathlib.Omega.{arith}
 use borrow.Author.Tests.{ne-eqb}
 use lib.Dec.{eqb}
+use lib.ListN.{getD, set}
 use Rattle.laws.specs.Choice.{if_then_else_}
-use Rattle.laws.specs.Range.{allTo, highest, listTo}
+use Rattle.laws.specs.Range.{anyTo, allTo, highest}
+use Rattle.laws.specs.RangeLaws.{none-at, none-of, highest-zero}
 use Rattle.plan.specs.Limits.{maxV, maxM, mostN}
 use Rattle.plan.specs.declared.Refusal.the-variants.{Unknown}
 use Rattle.plan.specs.declared.Fault.{Fault}
@@ -17,17 +21,42 @@ use Rattle.board_seats.specs.Seats as seats
 use Rattle.board_walks.specs.Walks as walks
 use Rattle.board_supply.specs.Supplies.{nextMark, useFaultAt, askFaultAt, freeFaultAt, vcpuGoodAt}
 use Rattle.board_turns.specs.Turns as turns
-use Rattle.board_turns.specs.Turns.{mayHaveAt, localNextAt, priorityAt, vcpuPriorityAt}
+use Rattle.board_turns.specs.Turns.{localNextAt, priorityAt, vcpuPriorityAt}
 use Rattle.board_rules.specs.View.{factsIn}
-use Rattle.board_rules.specs.Board.{Board, withStopped, holdsGlobal, supply, mustStop, settled, useFault, topFault, askFault, freeFault, isBusy, mayHave, passes, asked, used, topped, freed, Nobody, To, nextOf, Ask, Free, Use, Top, Show, answered, refused, step, complete, seat, withHolder, withWait, Granted, Waits, nextGlobal, waiterV, waiterN, nextLocal, localN, localWaiter, freedGlobal, freedLocal, showFault, heldGlobal, heldLocal, raisedBy, taskPriority, vcpuPriority, Shows, good}
+use Rattle.board_rules.specs.Settle.{settledAt}
+use Rattle.board_rules.specs.Board.{Board, withStopped, holdsGlobal, supply, mustStop, useFault, topFault, askFault, freeFault, isBusy, passes, asked, used, topped, freed, Nobody, To, nextOf, Ask, Free, Use, Top, Show, answered, refused, step, nextGlobal, waiterV, waiterN, nextLocal, localN, localWaiter, freedGlobal, freedLocal, showFault, heldGlobal, heldLocal, raisedBy, taskPriority, vcpuPriority, Shows, good}
 
--- THE MARKS
-pub settled-in : (p : Policy) (o : OverrunChoice) (t : List ℕ) (b : Board) →
-    settled (factsIn p o t) b ≡ withStopped b (listTo maxV (λ v. nextMark p t (b .left) (b .stopped) (b .holder) v))
-unfolding settled mustStop factsIn holdsGlobal
-settled-in p o t b = refl
+-- THE MARK of v
+pub settled-in : (p : Policy) (o : OverrunChoice) (t : List ℕ) (b : Board) (v : ℕ) →
+    settledAt (factsIn p o t) b v ≡ withStopped b (set (b .stopped) (v - 1) (nextMark p t (b .left) (b .stopped) (b .holder) v))
+unfolding mustStop factsIn holdsGlobal
+settled-in p o t b v = refl
 
--- WHO IS NEXT: the global waiter
+-- WHO IS NEXT: nobody waits for m just where no VCPU has a waiter
+pub none-awaits : (ws : List ℕ) (m : ℕ) → (turns.awaitedAt ws m ≡ false) ↔ (turns.waiterV ws m ≡ 0)
+none-awaits ws m = (down, up)
+  where
+    f : ℕ → Bool
+    f s = eqb (getD ws (s - 1) 0) m
+
+    g : ℕ → Bool
+    g v = anyTo mostN (λ n. eqb (seats.waitAt ws v n) m)
+
+    down : anyTo (maxV * mostN) f ≡ false → highest maxV g ≡ 0
+    down e =
+        highest-zero maxV g .0
+        (none-of maxV g (λ v a b. none-of mostN (λ n. eqb (seats.waitAt ws v n) m) (λ n c d. none-at (maxV * mostN) (seats.seat v n) f e (omega arith) (omega arith))))
+
+    up : highest maxV g ≡ 0 → anyTo (maxV * mostN) f ≡ false
+    up e =
+        none-of (maxV * mostN) f
+        (λ s a b.
+        let v = (s - 1) / 8 + 1 in
+        let n = (s - 1) % 8 + 1 in
+        let q : seats.seat v n ≡ s = omega arith in
+        ap f (sym q) ∙ none-at mostN n (λ n. eqb (seats.waitAt ws v n) m) (none-at maxV v g (highest-zero maxV g .1 e) (omega arith) (omega arith)) (omega arith) (omega arith))
+
+-- the global waiter
 pub global-next : (b : Board) (m : ℕ) → let v = turns.waiterV (b .waits) m in nextOf v (turns.waiterN (b .waits) m v) ≡ nextGlobal b m
 unfolding nextGlobal waiterV waiterN
 global-next b m = go (eqb (turns.waiterV (b .waits) m) 0) refl
@@ -77,14 +106,6 @@ module _ (p : Policy) (o : OverrunChoice) (t : List ℕ) (b : Board) where
   pub top-known : (v : ℕ) → seats.hasVcpu t v ≡ true → step (factsIn p o t) b (Top v) ≡ topped (factsIn p o t) b v
   unfolding step topFault unless factsIn
   top-known v e = rw e
-
-  pub asked-have : (v n m : ℕ) → mayHaveAt t (b .holder) v n m ≡ true → asked (factsIn p o t) b v n m ≡ complete (factsIn p o t) Granted (withHolder b m (seat v n))
-  unfolding asked mayHave passes factsIn
-  asked-have v n m e = rw e
-
-  pub asked-wait : (v n m : ℕ) → mayHaveAt t (b .holder) v n m ≡ false → asked (factsIn p o t) b v n m ≡ complete (factsIn p o t) Waits (withWait b v n m)
-  unfolding asked mayHave passes factsIn
-  asked-wait v n m e = rw e
 
   pub freed-global : (v m : ℕ) → seats.isGlobal t m ≡ true → freed (factsIn p o t) b v m ≡ freedGlobal (factsIn p o t) b m
   unfolding freed factsIn

@@ -6,3 +6,12 @@ pub mod Printed
 pub mod PrintedLaws
 pub mod View
 pub mod BoardLaws
+pub mod Names
+pub mod Change
+pub mod LocalNext
+pub mod Settle
+pub mod SettleEvents
+pub mod Marked
+pub mod CompleteLaws
+pub mod Lent
+pub mod LentLaws

@@ -6,13 +6,20 @@ use plan::OverrunChoice;
 use plan::Policy;
 use plan::Refusal;
 ghost use mathlib.Core.Path.{_≡_};
-ghost use mathlib.Core.Bool.{false};
-ghost use Prim.Native.Nat.{_-_, _≤_};
-ghost use lib.ListN.{set};
+ghost use mathlib.Core.Bool.{Bool, false};
+ghost use mathlib.Core.List.{List};
+ghost use Prim.Native.Nat.{ℕ, _-_, _≤_};
+ghost use lib.ListN.{length, set};
 ghost use Rattle.plan.specs.declared.Policy.{Policy};
 ghost use Rattle.plan.specs.declared.OverrunChoice.{OverrunChoice};
+ghost use Rattle.board_seats.specs.Seats.{seat, isGlobal};
+ghost use Rattle.board_supply.specs.Supplies.{nextMark};
+ghost use Rattle.board_turns.specs.Turns.{waiterV};
 ghost use Rattle.board_rules.specs.View.{factsIn};
-ghost use Rattle.board_rules.specs.Board.{settled, complete, refused, withLeft, withStopped, withHolder, withWait, leftAnswer, used, topped, step, asked, handedTo, grantedLocal, nextOf, freed, freedGlobal, freedLocal, fresh, good};
+ghost use Rattle.board_rules.specs.Settle.{Marked};
+ghost use Rattle.board_rules.specs.SettleEvents.{OwnHeld};
+ghost use Rattle.board_rules.specs.Lent.{boardOf, outcomeOf};
+ghost use Rattle.board_rules.specs.Board.{refused, used, topped, step, asked, handedTo, grantedLocal, nextOf, freed, freedGlobal, freedLocal, fresh, good};
 
 // Per VCPU v, at place v - 1: budget left, overrun left, the stopped mark. Per mutex m, at place m - 1: the seat of its holder, 0 where it is free.
 // Per seat, at place seat - 1: the mutex that the task waits for, 0 for none. The seat of task (v, n) is (v - 1) * 8 + n.
@@ -55,195 +62,90 @@ pub struct Outcome {
     pub board: Board,
 }
 
-impl Board {
-    fn settle(mut self, policy: Policy, view: &[u64]) -> Board
-        ensures { λ r. ⌜ ((o : OverrunChoice) → r ≡ settled (factsIn policy o (now (view .entry))) self) ⌝ }
-    {
-        let stopped = self.stopped;
-        let marks = board_supply::marks(policy, view, &self.left, stopped, &self.holder);
-        self.stopped = marks;
-        self
-    }
+// The mark of v alone, when an event is complete: where no other mark is due and lacking, the board is settled.
+fn settle(policy: Policy, view: &[u64], left: &[u64], stopped: &mut [bool], holder: &[u16], v: u64)
+    requires { ⌜ (v ≤ 16) × (length (now stopped) ≡ 16) ⌝ }
+    ensures { λ r. ⌜ now (stopped .exit) ≡ set (now (stopped .entry)) (v - 1) (nextMark policy (now (view .entry)) (now (left .entry)) (now (stopped .entry)) (now (holder .entry)) v) ⌝ }
+{
+    let i = sub(v, 1) as usize;
+    let mark = board_supply::mark_after(policy, view, left, stopped, holder, v);
+    stopped[i] = mark;
+}
 
-    fn complete(self, policy: Policy, view: &[u64], a: BoardAnswer) -> Outcome
-        ensures { λ r. ⌜ ((o : OverrunChoice) → r ≡ complete (factsIn policy o (now (view .entry))) a self) ⌝ }
-    {
-        let b = self.settle(policy, view);
-        Outcome {
-            answer: a,
-            board: b,
-        }
-    }
+// t ticks of v: the budget first, then the overrun.
+fn used(
+    policy: Policy,
+    view: &[u64],
+    left: &mut [u64],
+    over: &mut [u64],
+    stopped: &mut [bool],
+    holder: &[u16],
+    v: u64,
+    t: u64,
+) -> BoardAnswer
+    requires { ⌜ (1 ≤ v) × (v ≤ 16) × (length (now left) ≡ 16) × (length (now over) ≡ 16) × (length (now stopped) ≡ 16) ⌝ }
+    ensures { λ r. ⌜ ((c : OverrunChoice) (ws : List ℕ) → Marked (factsIn policy c (now (view .entry))) (boardOf (now (left .entry)) (now (over .entry)) (now (stopped .entry)) (now (holder .entry)) ws) → outcomeOf r (boardOf (now (left .exit)) (now (over .exit)) (now (stopped .exit)) (now (holder .entry)) ws) ≡ used (factsIn policy c (now (view .entry))) (boardOf (now (left .entry)) (now (over .entry)) (now (stopped .entry)) (now (holder .entry)) ws) v t) ⌝ }
+{
+    let i = sub(v, 1) as usize;
+    let b = board_supply::budget_after(left, v, t);
+    let o = board_supply::overrun_after(left, over, v, t);
+    left[i] = b;
+    over[i] = o;
+    settle(policy, view, left, stopped, holder, v);
+    BoardAnswer::Left { b, o }
+}
 
-    // Refused: the board is as it was.
-    pub fn refuse(self, k: Refusal) -> Outcome
-        ensures { λ r. ⌜ r ≡ refused self k ⌝ }
-    {
-        let a = BoardAnswer::Refused(k);
-        Outcome {
-            answer: a,
-            board: self,
-        }
-    }
+// Budget and overrun of v full, its mark cleared: no mark is due then.
+fn topped(
+    view: &[u64],
+    left: &mut [u64],
+    over: &mut [u64],
+    stopped: &mut [bool],
+    v: u64,
+) -> BoardAnswer
+    requires { ⌜ (1 ≤ v) × (v ≤ 16) × (length (now left) ≡ 16) × (length (now over) ≡ 16) × (length (now stopped) ≡ 16) ⌝ }
+    ensures { λ r. ⌜ ((p : Policy) (c : OverrunChoice) (hs : List ℕ) (ws : List ℕ) → Marked (factsIn p c (now (view .entry))) (boardOf (now (left .entry)) (now (over .entry)) (now (stopped .entry)) hs ws) → outcomeOf r (boardOf (now (left .exit)) (now (over .exit)) (now (stopped .exit)) hs ws) ≡ topped (factsIn p c (now (view .entry))) (boardOf (now (left .entry)) (now (over .entry)) (now (stopped .entry)) hs ws) v) ⌝ }
+{
+    let i = sub(v, 1) as usize;
+    let b = board_seats::budget(view, v);
+    let o = board_seats::overrun(view, v);
+    left[i] = b;
+    over[i] = o;
+    stopped[i] = false;
+    BoardAnswer::Left { b, o }
+}
 
-    fn put_left(mut self, v: u64, l: u64, o: u64) -> Board
-        requires { ⌜ v ≤ 16 ⌝ }
-        ensures { λ r. ⌜ r ≡ withLeft self v l o ⌝ }
-    {
-        let i = sub(v, 1) as usize;
-        self.left[i] = l;
-        self.over[i] = o;
-        self
-    }
-
-    // No mark on v.
-    fn unmark(mut self, v: u64) -> Board
-        requires { ⌜ v ≤ 16 ⌝ }
-        ensures { λ r. ⌜ r ≡ withStopped self (set (self .stopped) (v - 1) false) ⌝ }
-    {
-        let i = sub(v, 1) as usize;
-        self.stopped[i] = false;
-        self
-    }
-
-    fn left_answer(self, v: u64) -> BoardAnswer
-        ensures { λ r. ⌜ r ≡ leftAnswer self v ⌝ }
-    {
-        let b = board_seats::figure(&self.left, v);
-        let o = board_seats::figure(&self.over, v);
-        BoardAnswer::Left { b, o }
-    }
-
-    // t ticks of v: the budget first, then the overrun.
-    fn used(self, policy: Policy, view: &[u64], v: u64, t: u64) -> Outcome
-        requires { ⌜ v ≤ 16 ⌝ }
-        ensures { λ r. ⌜ ((o : OverrunChoice) → r ≡ used (factsIn policy o (now (view .entry))) self v t) ⌝ }
-    {
-        let l = board_supply::budget_after(&self.left, v, t);
-        let o = board_supply::overrun_after(&self.left, &self.over, v, t);
-        let b = self.put_left(v, l, o);
-        let a = b.left_answer(v);
-        b.complete(policy, view, a)
-    }
-
-    // Budget and overrun of v full, its mark cleared.
-    fn topped(self, policy: Policy, view: &[u64], v: u64) -> Outcome
-        requires { ⌜ v ≤ 16 ⌝ }
-        ensures { λ r. ⌜ ((o : OverrunChoice) → r ≡ topped (factsIn policy o (now (view .entry))) self v) ⌝ }
-    {
-        let b = self.put_left(
-                v,
-                board_seats::budget(view, v),
-                board_seats::overrun(view, v),
-            )
-            .unmark(v);
-        let a = b.left_answer(v);
-        b.complete(policy, view, a)
+// The seat h holds m now, none where h is 0.
+fn put_holder(holder: &mut [u16], m: u64, h: u64)
+    requires { ⌜ h ≤ 128 ⌝ }
+    ensures { λ r. ⌜ now (holder .exit) ≡ set (now (holder .entry)) (m - 1) h ⌝ }
+{
+    let i = sub(m, 1) as usize;
+    if i < holder.len() {
+        holder[i] = h as u16;
     }
 }
 
-impl Board {
-    // `use v t`
-    pub fn use_on(
-        self,
-        policy: Policy,
-        choice: OverrunChoice,
-        view: &[u64],
-        v: u64,
-        t: u64,
-    ) -> Outcome
-        ensures { λ r. ⌜ r ≡ step (factsIn policy choice (now (view .entry))) self (Event.Use v t) ⌝ }
-    {
-        let fault = board_supply::use_fault(
-            choice,
-            view,
-            &self.left,
-            &self.over,
-            &self.stopped,
-            &self.holder,
-            v,
-            t,
-        );
-        match fault {
-            Fault::Clear => self.used(policy, view, v, t),
-            Fault::Bad(k) => self.refuse(k),
-        }
-    }
+// Task (v, n) waits for w now, for none where w is 0.
+fn put_wait(waits: &mut [u8], v: u64, n: u64, w: u64)
+    requires { ⌜ (v ≤ 16) × (n ≤ 8) × (w ≤ 32) × (length (now waits) ≡ 128) ⌝ }
+    ensures { λ r. ⌜ now (waits .exit) ≡ set (now (waits .entry)) (seat v n - 1) w ⌝ }
+{
+    let i = sub(board_seats::seat(v, n), 1) as usize;
+    waits[i] = w as u8;
+}
 
-    // `top v`
-    pub fn top_on(self, policy: Policy, choice: OverrunChoice, view: &[u64], v: u64) -> Outcome
-        ensures { λ r. ⌜ r ≡ step (factsIn policy choice (now (view .entry))) self (Event.Top v) ⌝ }
-    {
-        if !board_seats::has_vcpu(view, v) {
-            return self.refuse(Refusal::Unknown);
-        }
-        self.topped(policy, view, v)
+// m goes to task (v, n) where it may have it, else the task waits.
+fn asked(view: &[u64], holder: &mut [u16], waits: &mut [u8], v: u64, n: u64, m: u64) -> BoardAnswer
+    requires { ⌜ (v ≤ 16) × (n ≤ 8) × (1 ≤ m) × (m ≤ 32) × (length (now waits) ≡ 128) ⌝ }
+    ensures { λ r. ⌜ ((p : Policy) (c : OverrunChoice) (ls : List ℕ) (os : List ℕ) (ss : List Bool) → length ss ≡ 16 → Marked (factsIn p c (now (view .entry))) (boardOf ls os ss (now (holder .entry)) (now (waits .entry))) → outcomeOf r (boardOf ls os ss (now (holder .exit)) (now (waits .exit))) ≡ asked (factsIn p c (now (view .entry))) (boardOf ls os ss (now (holder .entry)) (now (waits .entry))) v n m) ⌝ }
+{
+    if board_turns::may_have(view, holder, v, n, m) {
+        put_holder(holder, m, board_seats::seat(v, n));
+        return BoardAnswer::Granted;
     }
-
-    // The seat h holds m now, none where h is 0.
-    fn put_holder(mut self, m: u64, h: u64) -> Board
-        requires { ⌜ h ≤ 128 ⌝ }
-        ensures { λ r. ⌜ r ≡ withHolder self m h ⌝ }
-    {
-        let i = sub(m, 1) as usize;
-        if i < 32 {
-            self.holder[i] = h as u16;
-            return self;
-        }
-        self
-    }
-
-    // Task (v, n) waits for w now, for none where w is 0.
-    fn put_wait(mut self, v: u64, n: u64, w: u64) -> Board
-        requires { ⌜ (v ≤ 16) × (n ≤ 8) × (w ≤ 32) ⌝ }
-        ensures { λ r. ⌜ r ≡ withWait self v n w ⌝ }
-    {
-        let i = sub(board_seats::seat(v, n), 1) as usize;
-        self.waits[i] = w as u8;
-        self
-    }
-
-    fn asked(self, policy: Policy, view: &[u64], v: u64, n: u64, m: u64) -> Outcome
-        requires { ⌜ (v ≤ 16) × (n ≤ 8) × (m ≤ 32) ⌝ }
-        ensures { λ r. ⌜ ((o : OverrunChoice) → r ≡ asked (factsIn policy o (now (view .entry))) self v n m) ⌝ }
-    {
-        if board_turns::may_have(view, &self.holder, v, n, m) {
-            let b = self.put_holder(m, board_seats::seat(v, n));
-            return b.complete(policy, view, BoardAnswer::Granted);
-        }
-        let b = self.put_wait(v, n, m);
-        b.complete(policy, view, BoardAnswer::Waits)
-    }
-
-    // `ask v n m`
-    pub fn ask_on(
-        self,
-        policy: Policy,
-        choice: OverrunChoice,
-        view: &[u64],
-        v: u64,
-        n: u64,
-        m: u64,
-    ) -> Outcome
-        ensures { λ r. ⌜ r ≡ step (factsIn policy choice (now (view .entry))) self (Event.Ask v n m) ⌝ }
-    {
-        let fault = board_supply::ask_fault(
-            choice,
-            view,
-            &self.left,
-            &self.over,
-            &self.stopped,
-            &self.holder,
-            &self.waits,
-            v,
-            n,
-            m,
-        );
-        match fault {
-            Fault::Clear => self.asked(policy, view, v, n, m),
-            Fault::Bad(k) => self.refuse(k),
-        }
-    }
+    put_wait(waits, v, n, m);
+    BoardAnswer::Waits
 }
 
 // The task (v, n), or nobody where n is 0.
@@ -257,62 +159,325 @@ fn next_of(v: u64, n: u64) -> Next
     }
 }
 
+// m goes to task (v, n), who then waits no more, or is free where n is 0.
+fn hand(holder: &mut [u16], waits: &mut [u8], m: u64, v: u64, n: u64)
+    requires { ⌜ (v ≤ 16) × (n ≤ 8) × (length (now waits) ≡ 128) ⌝ }
+    ensures { λ r. ⌜ ((ls : List ℕ) (os : List ℕ) (ss : List Bool) → (boardOf ls os ss (now (holder .exit)) (now (waits .exit))) ≡ handedTo (boardOf ls os ss (now (holder .entry)) (now (waits .entry))) m (nextOf v n)) ⌝ }
+{
+    if n == 0 {
+        put_holder(holder, m, 0);
+        return;
+    }
+    put_holder(holder, m, board_seats::seat(v, n));
+    put_wait(waits, v, n, 0);
+}
+
+// The highest VCPU that has a waiter for m, 0 for none: the rows are built only where somebody waits.
+fn waiter(waits: &[u8], m: u64) -> u64
+    requires { ⌜ (m ≤ 32) × (length (now waits) ≡ 128) ⌝ }
+    ensures { λ r. ⌜ (r ≡ waiterV (now (waits .entry)) m) × (r ≤ 16) ⌝ }
+{
+    if board_turns::awaited(waits, m as u8) {
+        return board_turns::waiter_v(waits, m);
+    }
+    0
+}
+
+// A global mutex of v goes to the waiter with the highest VCPU, then the highest n.
+fn freed_global(
+    policy: Policy,
+    view: &[u64],
+    left: &[u64],
+    stopped: &mut [bool],
+    holder: &mut [u16],
+    waits: &mut [u8],
+    v: u64,
+    m: u64,
+) -> BoardAnswer
+    requires { ⌜ (1 ≤ v) × (v ≤ 16) × (1 ≤ m) × (m ≤ 32) × (length (now stopped) ≡ 16) × (length (now waits) ≡ 128) ⌝ }
+    ensures { λ r. ⌜ ((c : OverrunChoice) (os : List ℕ) → OwnHeld (boardOf (now (left .entry)) os (now (stopped .entry)) (now (holder .entry)) (now (waits .entry))) v m → Marked (factsIn policy c (now (view .entry))) (boardOf (now (left .entry)) os (now (stopped .entry)) (now (holder .entry)) (now (waits .entry))) → outcomeOf r (boardOf (now (left .entry)) os (now (stopped .exit)) (now (holder .exit)) (now (waits .exit))) ≡ freedGlobal (factsIn policy c (now (view .entry))) (boardOf (now (left .entry)) os (now (stopped .entry)) (now (holder .entry)) (now (waits .entry))) m) ⌝ }
+{
+    let w = waiter(waits, m);
+    let n = board_turns::waiter_n(waits, w, m);
+    hand(holder, waits, m, w, n);
+    settle(policy, view, left, stopped, holder, v);
+    BoardAnswer::Freed(next_of(w, n))
+}
+
+// Task (v, n) gets the mutex that it waits for; nobody where n is 0.
+fn grant(holder: &mut [u16], waits: &mut [u8], v: u64, n: u64)
+    requires { ⌜ (v ≤ 16) × (n ≤ 8) × (length (now waits) ≡ 128) ⌝ }
+    ensures { λ r. ⌜ ((ls : List ℕ) (os : List ℕ) (ss : List Bool) → (boardOf ls os ss (now (holder .exit)) (now (waits .exit))) ≡ grantedLocal (boardOf ls os ss (now (holder .entry)) (now (waits .entry))) (nextOf v n)) ⌝ }
+{
+    if n == 0 {
+        return;
+    }
+    let m = board_seats::wait(waits, v, n);
+    hand(holder, waits, m, v, n);
+}
+
+// After a local mutex, the highest local waiter is granted its mutex if it passes the test now.
+fn freed_local(
+    policy: Policy,
+    view: &[u64],
+    left: &[u64],
+    stopped: &mut [bool],
+    holder: &mut [u16],
+    waits: &mut [u8],
+    v: u64,
+    m: u64,
+) -> BoardAnswer
+    requires { ⌜ (1 ≤ v) × (v ≤ 16) × (1 ≤ m) × (m ≤ 32) × (isGlobal (now view) m ≡ false) × (length (now stopped) ≡ 16) × (length (now waits) ≡ 128) ⌝ }
+    ensures { λ r. ⌜ ((c : OverrunChoice) (os : List ℕ) → Marked (factsIn policy c (now (view .entry))) (boardOf (now (left .entry)) os (now (stopped .entry)) (now (holder .entry)) (now (waits .entry))) → outcomeOf r (boardOf (now (left .entry)) os (now (stopped .exit)) (now (holder .exit)) (now (waits .exit))) ≡ freedLocal (factsIn policy c (now (view .entry))) (boardOf (now (left .entry)) os (now (stopped .entry)) (now (holder .entry)) (now (waits .entry))) v m) ⌝ }
+{
+    put_holder(holder, m, 0);
+    let n = board_turns::next_local(view, holder, waits, v);
+    grant(holder, waits, v, n);
+    settle(policy, view, left, stopped, holder, v);
+    BoardAnswer::Freed(next_of(v, n))
+}
+
+// m of v is freed: a global mutex, or a local one.
+fn freed(
+    policy: Policy,
+    view: &[u64],
+    left: &[u64],
+    stopped: &mut [bool],
+    holder: &mut [u16],
+    waits: &mut [u8],
+    v: u64,
+    m: u64,
+) -> BoardAnswer
+    requires { ⌜ (1 ≤ v) × (v ≤ 16) × (1 ≤ m) × (m ≤ 32) × (length (now stopped) ≡ 16) × (length (now waits) ≡ 128) ⌝ }
+    ensures { λ r. ⌜ ((c : OverrunChoice) (os : List ℕ) → OwnHeld (boardOf (now (left .entry)) os (now (stopped .entry)) (now (holder .entry)) (now (waits .entry))) v m → Marked (factsIn policy c (now (view .entry))) (boardOf (now (left .entry)) os (now (stopped .entry)) (now (holder .entry)) (now (waits .entry))) → outcomeOf r (boardOf (now (left .entry)) os (now (stopped .exit)) (now (holder .exit)) (now (waits .exit))) ≡ freed (factsIn policy c (now (view .entry))) (boardOf (now (left .entry)) os (now (stopped .entry)) (now (holder .entry)) (now (waits .entry))) v m) ⌝ }
+{
+    if board_seats::is_global(view, m) {
+        return freed_global(policy, view, left, stopped, holder, waits, v, m);
+    }
+    freed_local(policy, view, left, stopped, holder, waits, v, m)
+}
+
 impl Board {
-    // m goes to task (v, n), who then waits no more, or is free where n is 0.
-    fn hand(self, m: u64, v: u64, n: u64) -> Board
-        requires { ⌜ (v ≤ 16) × (n ≤ 8) ⌝ }
-        ensures { λ r. ⌜ r ≡ handedTo self m (nextOf v n) ⌝ }
+    // `use v t` on lent arrays: the answer, and the arrays as the event leaves them.
+    pub fn use_in(
+        policy: Policy,
+        choice: OverrunChoice,
+        view: &[u64],
+        left: &mut [u64],
+        over: &mut [u64],
+        stopped: &mut [bool],
+        holder: &[u16],
+        v: u64,
+        t: u64,
+    ) -> BoardAnswer
+        requires { ⌜ (length (now left) ≡ 16) × (length (now over) ≡ 16) × (length (now stopped) ≡ 16) × ((ws : List ℕ) → Marked (factsIn policy choice (now view)) (boardOf (now left) (now over) (now stopped) (now holder) ws)) ⌝ }
+        ensures { λ r. ⌜ ((ws : List ℕ) → outcomeOf r (boardOf (now (left .exit)) (now (over .exit)) (now (stopped .exit)) (now (holder .entry)) ws) ≡ step (factsIn policy choice (now (view .entry))) (boardOf (now (left .entry)) (now (over .entry)) (now (stopped .entry)) (now (holder .entry)) ws) (Event.Use v t)) ⌝ }
     {
-        if n == 0 {
-            return self.put_holder(m, 0);
+        let fault = board_supply::use_fault(choice, view, left, over, stopped, holder, v, t);
+        match fault {
+            Fault::Clear => used(policy, view, left, over, stopped, holder, v, t),
+            Fault::Bad(k) => BoardAnswer::Refused(k),
         }
-        self.put_holder(m, board_seats::seat(v, n))
-            .put_wait(v, n, 0)
     }
 
-    // A global mutex goes to the waiter with the highest VCPU, then the highest n.
-    fn freed_global(self, policy: Policy, view: &[u64], m: u64) -> Outcome
-        requires { ⌜ m ≤ 32 ⌝ }
-        ensures { λ r. ⌜ ((o : OverrunChoice) → r ≡ freedGlobal (factsIn policy o (now (view .entry))) self m) ⌝ }
+    // `top v` on lent arrays: budget and overrun of v full, its mark cleared.
+    pub fn top_in(
+        policy: Policy,
+        choice: OverrunChoice,
+        view: &[u64],
+        left: &mut [u64],
+        over: &mut [u64],
+        stopped: &mut [bool],
+        holder: &[u16],
+        v: u64,
+    ) -> BoardAnswer
+        requires { ⌜ (length (now left) ≡ 16) × (length (now over) ≡ 16) × (length (now stopped) ≡ 16) × ((ws : List ℕ) → Marked (factsIn policy choice (now view)) (boardOf (now left) (now over) (now stopped) (now holder) ws)) ⌝ }
+        ensures { λ r. ⌜ ((ws : List ℕ) → outcomeOf r (boardOf (now (left .exit)) (now (over .exit)) (now (stopped .exit)) (now (holder .entry)) ws) ≡ step (factsIn policy choice (now (view .entry))) (boardOf (now (left .entry)) (now (over .entry)) (now (stopped .entry)) (now (holder .entry)) ws) (Event.Top v)) ⌝ }
     {
-        let v = board_turns::waiter_v(&self.waits, m);
-        let n = board_turns::waiter_n(&self.waits, v, m);
-        let next = next_of(v, n);
-        let b = self.hand(m, v, n);
-        b.complete(policy, view, BoardAnswer::Freed(next))
-    }
-
-    // Task (v, n) gets the mutex that it waits for; nobody where n is 0.
-    fn grant(self, v: u64, n: u64) -> Board
-        requires { ⌜ (v ≤ 16) × (n ≤ 8) ⌝ }
-        ensures { λ r. ⌜ r ≡ grantedLocal self (nextOf v n) ⌝ }
-    {
-        if n == 0 {
-            return self;
+        if !board_seats::has_vcpu(view, v) {
+            return BoardAnswer::Refused(Refusal::Unknown);
         }
-        self.hand(board_seats::wait(&self.waits, v, n), v, n)
+        topped(view, left, over, stopped, v)
     }
 
-    // After a local mutex, the highest local waiter is granted its mutex if it passes the test now.
-    fn freed_local(self, policy: Policy, view: &[u64], v: u64, m: u64) -> Outcome
-        requires { ⌜ v ≤ 16 ⌝ }
-        ensures { λ r. ⌜ ((o : OverrunChoice) → r ≡ freedLocal (factsIn policy o (now (view .entry))) self v m) ⌝ }
+    // `ask v n m` on lent arrays: no mark changes, where none is due and lacking.
+    pub fn ask_in(
+        policy: Policy,
+        choice: OverrunChoice,
+        view: &[u64],
+        left: &[u64],
+        over: &[u64],
+        stopped: &[bool],
+        holder: &mut [u16],
+        waits: &mut [u8],
+        v: u64,
+        n: u64,
+        m: u64,
+    ) -> BoardAnswer
+        requires { ⌜ (length (now stopped) ≡ 16) × (length (now waits) ≡ 128) × Marked (factsIn policy choice (now view)) (boardOf (now left) (now over) (now stopped) (now holder) (now waits)) ⌝ }
+        ensures { λ r. ⌜ outcomeOf r (boardOf (now (left .entry)) (now (over .entry)) (now (stopped .entry)) (now (holder .exit)) (now (waits .exit))) ≡ step (factsIn policy choice (now (view .entry))) (boardOf (now (left .entry)) (now (over .entry)) (now (stopped .entry)) (now (holder .entry)) (now (waits .entry))) (Event.Ask v n m) ⌝ }
     {
-        let after = self.put_holder(m, 0);
-        let n = board_turns::next_local(view, &after.holder, &after.waits, v);
-        let next = next_of(v, n);
-        let b = after.grant(v, n);
-        b.complete(policy, view, BoardAnswer::Freed(next))
-    }
-
-    fn freed(self, policy: Policy, view: &[u64], v: u64, m: u64) -> Outcome
-        requires { ⌜ (v ≤ 16) × (m ≤ 32) ⌝ }
-        ensures { λ r. ⌜ ((o : OverrunChoice) → r ≡ freed (factsIn policy o (now (view .entry))) self v m) ⌝ }
-    {
-        if board_seats::is_global(view, m) {
-            return self.freed_global(policy, view, m);
+        let fault = board_supply::ask_fault(
+            choice,
+            view,
+            left,
+            over,
+            stopped,
+            holder,
+            waits,
+            v,
+            n,
+            m,
+        );
+        match fault {
+            Fault::Clear => asked(view, holder, waits, v, n, m),
+            Fault::Bad(k) => BoardAnswer::Refused(k),
         }
-        self.freed_local(policy, view, v, m)
+    }
+
+    // `free v n m` on lent arrays: the waiting marks are walked only where somebody waits for m.
+    pub fn free_in(
+        policy: Policy,
+        choice: OverrunChoice,
+        view: &[u64],
+        left: &[u64],
+        stopped: &mut [bool],
+        holder: &mut [u16],
+        waits: &mut [u8],
+        v: u64,
+        n: u64,
+        m: u64,
+    ) -> BoardAnswer
+        requires { ⌜ (length (now stopped) ≡ 16) × (length (now waits) ≡ 128) × ((os : List ℕ) → Marked (factsIn policy choice (now view)) (boardOf (now left) os (now stopped) (now holder) (now waits))) ⌝ }
+        ensures { λ r. ⌜ ((os : List ℕ) → outcomeOf r (boardOf (now (left .entry)) os (now (stopped .exit)) (now (holder .exit)) (now (waits .exit))) ≡ step (factsIn policy choice (now (view .entry))) (boardOf (now (left .entry)) os (now (stopped .entry)) (now (holder .entry)) (now (waits .entry))) (Event.Free v n m)) ⌝ }
+    {
+        let fault = board_supply::free_fault(view, holder, v, n, m);
+        match fault {
+            Fault::Clear => freed(policy, view, left, stopped, holder, waits, v, m),
+            Fault::Bad(k) => BoardAnswer::Refused(k),
+        }
+    }
+}
+
+impl Board {
+    // Refused: the board is as it was.
+    pub fn refuse(self, k: Refusal) -> Outcome
+        ensures { λ r. ⌜ r ≡ refused self k ⌝ }
+    {
+        let a = BoardAnswer::Refused(k);
+        Outcome {
+            answer: a,
+            board: self,
+        }
+    }
+
+    // `use v t`
+    pub fn use_on(
+        self,
+        policy: Policy,
+        choice: OverrunChoice,
+        view: &[u64],
+        v: u64,
+        t: u64,
+    ) -> Outcome
+        requires { ⌜ Marked (factsIn policy choice (now view)) self ⌝ }
+        ensures { λ r. ⌜ r ≡ step (factsIn policy choice (now (view .entry))) self (Event.Use v t) ⌝ }
+    {
+        let mut left = self.left;
+        let mut over = self.over;
+        let mut stopped = self.stopped;
+        let holder = self.holder;
+        let waits = self.waits;
+        let answer = Board::use_in(
+            policy,
+            choice,
+            view,
+            &mut left,
+            &mut over,
+            &mut stopped,
+            &holder,
+            v,
+            t,
+        );
+        let board = Board {
+            left,
+            over,
+            stopped,
+            holder,
+            waits,
+        };
+        Outcome { answer, board }
+    }
+
+    // `top v`
+    pub fn top_on(self, policy: Policy, choice: OverrunChoice, view: &[u64], v: u64) -> Outcome
+        requires { ⌜ Marked (factsIn policy choice (now view)) self ⌝ }
+        ensures { λ r. ⌜ r ≡ step (factsIn policy choice (now (view .entry))) self (Event.Top v) ⌝ }
+    {
+        let mut left = self.left;
+        let mut over = self.over;
+        let mut stopped = self.stopped;
+        let holder = self.holder;
+        let waits = self.waits;
+        let answer = Board::top_in(
+            policy,
+            choice,
+            view,
+            &mut left,
+            &mut over,
+            &mut stopped,
+            &holder,
+            v,
+        );
+        let board = Board {
+            left,
+            over,
+            stopped,
+            holder,
+            waits,
+        };
+        Outcome { answer, board }
+    }
+
+    // `ask v n m`
+    pub fn ask_on(
+        self,
+        policy: Policy,
+        choice: OverrunChoice,
+        view: &[u64],
+        v: u64,
+        n: u64,
+        m: u64,
+    ) -> Outcome
+        requires { ⌜ Marked (factsIn policy choice (now view)) self ⌝ }
+        ensures { λ r. ⌜ r ≡ step (factsIn policy choice (now (view .entry))) self (Event.Ask v n m) ⌝ }
+    {
+        let left = self.left;
+        let over = self.over;
+        let stopped = self.stopped;
+        let mut holder = self.holder;
+        let mut waits = self.waits;
+        let answer = Board::ask_in(
+            policy,
+            choice,
+            view,
+            &left,
+            &over,
+            &stopped,
+            &mut holder,
+            &mut waits,
+            v,
+            n,
+            m,
+        );
+        let board = Board {
+            left,
+            over,
+            stopped,
+            holder,
+            waits,
+        };
+        Outcome { answer, board }
     }
 
     // `free v n m`
@@ -325,13 +490,34 @@ impl Board {
         n: u64,
         m: u64,
     ) -> Outcome
+        requires { ⌜ Marked (factsIn policy choice (now view)) self ⌝ }
         ensures { λ r. ⌜ r ≡ step (factsIn policy choice (now (view .entry))) self (Event.Free v n m) ⌝ }
     {
-        let fault = board_supply::free_fault(view, &self.holder, v, n, m);
-        match fault {
-            Fault::Clear => self.freed(policy, view, v, m),
-            Fault::Bad(k) => self.refuse(k),
-        }
+        let left = self.left;
+        let over = self.over;
+        let mut stopped = self.stopped;
+        let mut holder = self.holder;
+        let mut waits = self.waits;
+        let answer = Board::free_in(
+            policy,
+            choice,
+            view,
+            &left,
+            &mut stopped,
+            &mut holder,
+            &mut waits,
+            v,
+            n,
+            m,
+        );
+        let board = Board {
+            left,
+            over,
+            stopped,
+            holder,
+            waits,
+        };
+        Outcome { answer, board }
     }
 
     // `show v n`
@@ -389,6 +575,7 @@ impl Board {
 
     // One event.
     pub fn step_on(self, policy: Policy, choice: OverrunChoice, view: &[u64], e: Event) -> Outcome
+        requires { ⌜ Marked (factsIn policy choice (now view)) self ⌝ }
         ensures { λ r. ⌜ r ≡ step (factsIn policy choice (now (view .entry))) self e ⌝ }
     {
         match e {

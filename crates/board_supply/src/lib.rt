@@ -11,9 +11,12 @@ use plan::Refusal;
 use plan::unless;
 use plan::within;
 ghost use mathlib.Core.Path.{_≡_};
+ghost use mathlib.Core.Bool.{true};
 ghost use Prim.Native.Nat.{_+_, _≤_, min};
-ghost use Rattle.laws.specs.Range.{allTo, listTo};
+ghost use Rattle.laws.specs.Choice.{if_then_else_};
+ghost use Rattle.laws.specs.Range.{allTo};
 ghost use Rattle.plan.specs.Limits.{maxTicks};
+ghost use Rattle.board_walks.specs.Walks.{holdsGlobal};
 ghost use Rattle.board_supply.specs.Supplies.{reserve, supplyAt, underP, idle, nextMark, tickFault, useFaultAt, budgetAfter, overrunAfter, known, busyAt, taskFault, askFaultAt, freeFaultAt, figuresGood, markGoodAt, vcpuGoodAt};
 
 // a + b, as far as the ticks of an event go.
@@ -28,37 +31,51 @@ fn capped(a: u64, b: u64) -> u64
     1000000
 }
 
-// The overrun that counts.
-fn reserve(choice: OverrunChoice, held: bool, stopped: bool, o: u64) -> u64
-    ensures { λ r. ⌜ r ≡ reserve choice held stopped o ⌝ }
+// The overrun that counts while a global mutex is held.
+fn reserve(choice: OverrunChoice, stopped: bool, o: u64) -> u64
+    ensures { λ r. ⌜ r ≡ reserve choice true stopped o ⌝ }
 {
     match choice {
-        OverrunChoice::WithOverrun => if held { if stopped { 0 } else { o } } else { 0 },
+        OverrunChoice::WithOverrun => if stopped { 0 } else { o },
         OverrunChoice::WithoutOverrun => 0,
     }
 }
 
+// o where the tasks of v hold a global mutex, else 0: where o is 0, nobody asks.
+fn counted(view: &[u64], holder: &[u16], v: u64, o: u64) -> u64
+    requires { ⌜ v ≤ 16 ⌝ }
+    ensures { λ r. ⌜ r ≡ if holdsGlobal (now (view .entry)) (now (holder .entry)) v then o else 0 ⌝ }
+{
+    if o == 0 {
+        return 0;
+    }
+    if board_walks::holds_global(view, holder, v) {
+        o
+    } else {
+        0
+    }
+}
+
 // The supply of v, as far as the ticks of an event go.
-fn supply<'a>(
+fn supply(
     choice: OverrunChoice,
     view: &[u64],
-    left: &'a [u64],
-    over: &'a [u64],
-    stopped: &'a [bool],
-    holder: &'a [u16],
+    left: &[u64],
+    over: &[u64],
+    stopped: &[bool],
+    holder: &[u16],
     v: u64,
 ) -> u64
     requires { ⌜ v ≤ 16 ⌝ }
     ensures { λ r. ⌜ r ≡ min (supplyAt choice (now (view .entry)) (now (left .entry)) (now (over .entry)) (now (stopped .entry)) (now (holder .entry)) v) maxTicks ⌝ }
 {
-    let held = board_walks::holds_global(view, holder, v);
     let o = reserve(
         choice,
-        held,
         board_seats::mark(stopped, v),
         board_seats::figure(over, v),
     );
-    capped(board_seats::figure(left, v), o)
+    let extra = counted(view, holder, v, o);
+    capped(board_seats::figure(left, v), extra)
 }
 
 // The faults of `use` on a VCPU of the plan, at the supply s.
@@ -70,20 +87,23 @@ fn tick_fault(s: u64, t: u64) -> Fault
     unless(within(t, 1, 1000000), Refusal::Range, asleep)
 }
 
-// The faults of `use v t`.
-pub fn use_fault<'a>(
+// The faults of `use v t`: what is left of the budget is all the supply that most events need.
+pub fn use_fault(
     choice: OverrunChoice,
     view: &[u64],
-    left: &'a [u64],
-    over: &'a [u64],
-    stopped: &'a [bool],
-    holder: &'a [u16],
+    left: &[u64],
+    over: &[u64],
+    stopped: &[bool],
+    holder: &[u16],
     v: u64,
     t: u64,
 ) -> Fault
     ensures { λ f. ⌜ f ≡ useFaultAt choice (now (view .entry)) (now (left .entry)) (now (over .entry)) (now (stopped .entry)) (now (holder .entry)) v t ⌝ }
 {
     if board_seats::has_vcpu(view, v) {
+        if both(within(t, 1, 1000000), t <= board_seats::figure(left, v)) {
+            return Fault::Clear;
+        }
         let s = supply(choice, view, left, over, stopped, holder, v);
         return tick_fault(s, t);
     }
@@ -97,7 +117,7 @@ pub fn budget_after(left: &[u64], v: u64, t: u64) -> u64
     sub(board_seats::figure(left, v), t)
 }
 
-pub fn overrun_after<'a>(left: &'a [u64], over: &'a [u64], v: u64, t: u64) -> u64
+pub fn overrun_after(left: &[u64], over: &[u64], v: u64, t: u64) -> u64
     ensures { λ r. ⌜ r ≡ overrunAfter (now (left .entry)) (now (over .entry)) v t ⌝ }
 {
     let rest = sub(t, board_seats::figure(left, v));
@@ -105,66 +125,50 @@ pub fn overrun_after<'a>(left: &'a [u64], over: &'a [u64], v: u64, t: u64) -> u6
 }
 
 // VCPU v of the plan stands at 0, with no global mutex held by its tasks.
-fn idle<'a>(view: &[u64], left: &'a [u64], holder: &'a [u16], v: u64) -> bool
+fn idle(view: &[u64], left: &[u64], holder: &[u16], v: u64) -> bool
     requires { ⌜ v ≤ 16 ⌝ }
     ensures { λ r. ⌜ r ≡ idle (now (view .entry)) (now (left .entry)) (now (holder .entry)) v ⌝ }
 {
-    if board_seats::figure(left, v) == 0 {
-        let held = board_walks::holds_global(view, holder, v);
-        return both(board_seats::has_vcpu(view, v), no(held));
+    if both(
+        board_seats::has_vcpu(view, v),
+        board_seats::figure(left, v) == 0,
+    ) {
+        return no(board_walks::holds_global(view, holder, v));
     }
     false
 }
 
 // The mark of v under P when an event is complete.
-fn next_mark<'a>(
-    view: &[u64],
-    left: &'a [u64],
-    stopped: &'a [bool],
-    holder: &'a [u16],
-    v: u64,
-) -> bool
+fn next_mark(view: &[u64], left: &[u64], stopped: &[bool], holder: &[u16], v: u64) -> bool
     requires { ⌜ v ≤ 16 ⌝ }
     ensures { λ r. ⌜ r ≡ nextMark Policy.Periodic (now (view .entry)) (now (left .entry)) (now (stopped .entry)) (now (holder .entry)) v ⌝ }
 {
-    either(board_seats::mark(stopped, v), idle(view, left, holder, v))
-}
-
-fn next_marks<'a>(
-    view: &[u64],
-    left: &'a [u64],
-    stopped: &'a [bool],
-    holder: &'a [u16],
-) -> [bool; 16]
-    ensures { λ r. ⌜ r ≡ listTo 16 (λ v. nextMark Policy.Periodic (now (view .entry)) (now (left .entry)) (now (stopped .entry)) (now (holder .entry)) v) ⌝ }
-{
-    let mut marks = [false; 16];
-    let mut v = 0;
-    while v < 16 {
-        marks[v] = next_mark(view, left, stopped, holder, v as u64 + 1);
-        v += 1;
+    if board_seats::mark(stopped, v) {
+        return true;
     }
-    marks
+    idle(view, left, holder, v)
 }
 
-// The marks when an event is complete: under D they stay.
-pub fn marks<'a>(
+// The mark of v when an event is complete: under D it stays.
+pub fn mark_after(
     policy: Policy,
     view: &[u64],
-    left: &'a [u64],
-    stopped: [bool; 16],
-    holder: &'a [u16],
-) -> [bool; 16]
-    ensures { λ r. ⌜ r ≡ listTo 16 (λ v. nextMark policy (now (view .entry)) (now (left .entry)) stopped (now (holder .entry)) v) ⌝ }
+    left: &[u64],
+    stopped: &[bool],
+    holder: &[u16],
+    v: u64,
+) -> bool
+    requires { ⌜ v ≤ 16 ⌝ }
+    ensures { λ r. ⌜ r ≡ nextMark policy (now (view .entry)) (now (left .entry)) (now (stopped .entry)) (now (holder .entry)) v ⌝ }
 {
     match policy {
-        Policy::Periodic => next_marks(view, left, &stopped, holder),
-        Policy::Deferrable => stopped,
+        Policy::Periodic => next_mark(view, left, stopped, holder, v),
+        Policy::Deferrable => board_seats::mark(stopped, v),
     }
 }
 
 // Task (v, n) holds or waits.
-fn busy<'a>(holder: &'a [u16], waits: &'a [u8], v: u64, n: u64) -> bool
+fn busy(holder: &[u16], waits: &[u8], v: u64, n: u64) -> bool
     requires { ⌜ (v ≤ 16) × (n ≤ 8) ⌝ }
     ensures { λ r. ⌜ r ≡ busyAt (now (holder .entry)) (now (waits .entry)) v n ⌝ }
 {
@@ -173,15 +177,7 @@ fn busy<'a>(holder: &'a [u16], waits: &'a [u8], v: u64, n: u64) -> bool
 }
 
 // The faults of `ask` by a task of the plan, at the supply s of its VCPU.
-fn task_fault<'a>(
-    s: u64,
-    view: &[u64],
-    holder: &'a [u16],
-    waits: &'a [u8],
-    v: u64,
-    n: u64,
-    m: u64,
-) -> Fault
+fn task_fault(s: u64, view: &[u64], holder: &[u16], waits: &[u8], v: u64, n: u64, m: u64) -> Fault
     requires { ⌜ (v ≤ 16) × (n ≤ 8) ⌝ }
     ensures { λ f. ⌜ f ≡ taskFault s (now (view .entry)) (now (holder .entry)) (now (waits .entry)) v n m ⌝ }
 {
@@ -201,14 +197,14 @@ fn known(view: &[u64], v: u64, n: u64, m: u64) -> bool
 }
 
 // The faults of `ask v n m`.
-pub fn ask_fault<'a>(
+pub fn ask_fault(
     choice: OverrunChoice,
     view: &[u64],
-    left: &'a [u64],
-    over: &'a [u64],
-    stopped: &'a [bool],
-    holder: &'a [u16],
-    waits: &'a [u8],
+    left: &[u64],
+    over: &[u64],
+    stopped: &[bool],
+    holder: &[u16],
+    waits: &[u8],
     v: u64,
     n: u64,
     m: u64,

@@ -1,5 +1,5 @@
 -- Whose turn it is, on a board's arrays: t is the view, hs the holders, ws the waits.
-use Prim.Native.Nat.{ℕ, _+_, _-_, max}
+use Prim.Native.Nat.{ℕ, _+_, _-_, _*_, max}
 use mathlib.Core.List.{List}
 use mathlib.Core.Bool.{Bool}
 use lib.Dec.{eqb}
@@ -13,6 +13,10 @@ use Rattle.board_walks.specs.Walks.{holdsGlobal, passes, heldGlobal, heldLocal,
 -- "G: granted if free, else waits. L: granted if n is above the ceiling of every local mutex of v held by other tasks, else waits"
 abbrev pub mayHaveAt : List ℕ → List ℕ → ℕ → ℕ → ℕ → Bool
 mayHaveAt t hs v n m = if isGlobal t m then eqb (getD hs (m - 1) 0) 0 else passes t hs v n
+
+-- some task waits for m
+abbrev pub awaitedAt : List ℕ → ℕ → Bool
+awaitedAt ws m = anyTo (maxV * mostN) (λ s. eqb (getD ws (s - 1) 0) m)
 
 -- "A G mutex goes to the waiter with the highest VCPU, then the highest n": that VCPU, and its task, 0 for none
 abbrev pub waiterV : List ℕ → ℕ → ℕ

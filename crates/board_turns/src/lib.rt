@@ -2,7 +2,9 @@
 use plan::larger;
 ghost use mathlib.Core.Path.{_≡_};
 ghost use Prim.Native.Nat.{_≤_};
-ghost use Rattle.board_turns.specs.Turns.{mayHaveAt, waiterV, waiterN, localNextAt, priorityAt, vcpuPriorityAt};
+ghost use lib.ListN.{length};
+ghost use Rattle.laws.specs.Choice.{if_then_else_};
+ghost use Rattle.board_turns.specs.Turns.{mayHaveAt, awaitedAt, waiterV, waiterN, localNextAt, priorityAt, vcpuPriorityAt};
 
 // A global mutex is free; for a local one the task passes the test.
 pub fn may_have(view: &[u64], holder: &[u16], v: u64, n: u64, m: u64) -> bool
@@ -13,6 +15,26 @@ pub fn may_have(view: &[u64], holder: &[u16], v: u64, n: u64, m: u64) -> bool
         return board_seats::holder(holder, m) == 0;
     }
     board_walks::passes(view, holder, v, n)
+}
+
+fn one(t: bool) -> u8
+    ensures { λ r. ⌜ (r ≡ if t then 1 else 0) × (r ≤ 1) ⌝ }
+{
+    if t { 1 } else { 0 }
+}
+
+// Some task waits for w. All marks are counted, with no way out of the loop, so that many are looked at in one step.
+pub fn awaited(waits: &[u8], w: u8) -> bool
+    requires { ⌜ length (now waits) ≡ 128 ⌝ }
+    ensures { λ r. ⌜ r ≡ awaitedAt (now (waits .entry)) w ⌝ }
+{
+    let mut k: u8 = 0;
+    let mut i: usize = 0;
+    while i < 128 {
+        k += one(waits[i] == w);
+        i += 1;
+    }
+    0 < k
 }
 
 // The highest VCPU that has a waiter for m, from the rows; 0 for none.
@@ -37,7 +59,7 @@ pub fn waiter_n(waits: &[u8], v: u64, m: u64) -> u64
 }
 
 // The highest local waiter of v, if it passes the test now; else 0.
-pub fn next_local<'a>(view: &[u64], holder: &'a [u16], waits: &'a [u8], v: u64) -> u64
+pub fn next_local(view: &[u64], holder: &[u16], waits: &[u8], v: u64) -> u64
     requires { ⌜ v ≤ 16 ⌝ }
     ensures { λ r. ⌜ (r ≡ localNextAt (now (view .entry)) (now (holder .entry)) (now (waits .entry)) v) × (r ≤ 8) ⌝ }
 {

@@ -1,6 +1,6 @@
--- A refused line leaves the board as it was.
+-- A refused line leaves the board as it was; and a mark stands where it is due after any line.
 use Prim.Native.Nat.{ℕ}
-use mathlib.Core.Path.{_≡_, refl, sym, _∙_}
+use mathlib.Core.Path.{_≡_, refl, sym, subst, _∙_}
 use mathlib.Core.List.{List}
 use mathlib.Core.Bool.{Bool, false, true≢false}
 use Rattle.board_rules.specs.Facts.{Facts}
@@ -9,6 +9,8 @@ use Rattle.board_rules.specs.declared.BoardAnswer.{BoardAnswer}
 use Rattle.board_rules.specs.declared.BoardAnswer.the-variants.{Granted, Waits, Freed, Left, Shows, Refused}
 use Rattle.board_rules.specs.declared.Outcome.{Outcome}
 use Rattle.board_rules.specs.Events.{onLine}
+use Rattle.board_rules.specs.Settle.{Marked}
+use Rattle.board_rules.specs.Marked.{line-marked}
 use Rattle.board_rules.specs.Printed.{LineSays, AnEvent, NoEvent, saysOf}
 use Rattle.board_rules.specs.PrintedLaws.{onSays, line-says}
 use Rattle.board_keeps.specs.Leaves.{Leaves, step-leaves}
@@ -31,3 +33,7 @@ module _ (F : Facts) (b : Board) where
       go (Left c d) q m s = absurd (true≢false m)
       go (Shows t v) q m s = absurd (true≢false m)
       go (Refused x) q m s = s x q
+
+  -- after a line a mark stands where it is due
+  pub marked-by : Marked F b → (l : List ℕ) (o : Outcome) → o ≡ onLine F b l → Marked F (o .board)
+  marked-by k l o e = subst (λ x. Marked F (x .board)) (sym e) (line-marked F b k l)

@@ -12,6 +12,7 @@ ghost use lib.ListN.{length, take};
 ghost use Rattle.listing.specs.Listing.{line};
 ghost use Rattle.text_letters.specs.Wrote.{Wrote};
 ghost use Rattle.board_rules.specs.View.{factsIn};
+ghost use Rattle.board_rules.specs.Settle.{Marked};
 ghost use Rattle.board_rules.specs.Events.{answerFields, repliesTo};
 ghost use Rattle.log_replies.specs.Parts.{endText};
 ghost use Rattle.log_answers.specs.Tells.{toldInto, moving, Space, Adds};
@@ -71,7 +72,7 @@ pub fn answers(
     src: &[u8],
     out: &mut [u8],
 ) -> usize
-    requires { ⌜ (length (now src) ≤ 65536) × (on ≡ true → length (repliesTo (factsIn policy choice (now view)) b (now src)) ≤ length (now out)) ⌝ }
+    requires { ⌜ (length (now src) ≤ 65536) × (on ≡ true → length (repliesTo (factsIn policy choice (now view)) b (now src)) ≤ length (now out)) × Marked (factsIn policy choice (now view)) b ⌝ }
     ensures { λ r. ⌜ r ≡ length (repliesTo (factsIn policy choice (now (view .entry))) b (now (src .entry))) ⌝ }
     ensures { λ r. ⌜ now (out .exit) ≡ toldInto on (repliesTo (factsIn policy choice (now (view .entry))) b (now (src .entry))) (now (out .entry)) ⌝ }
 {

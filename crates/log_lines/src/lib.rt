@@ -12,6 +12,7 @@ ghost use mathlib.Core.Path.{_≡_};
 ghost use Rattle.plan.specs.Line.{shape, written, numsOf};
 ghost use Rattle.text_lines.specs.Said.{saidItem};
 ghost use Rattle.board_rules.specs.View.{factsIn};
+ghost use Rattle.board_rules.specs.Settle.{Marked};
 ghost use Rattle.board_rules.specs.Events.{eventOf, onItem, onLine};
 ghost use Rattle.log_lines.specs.Told.{toldOf, onSaid, onTold};
 
@@ -57,6 +58,7 @@ fn on_event(
     ok: bool,
     e: Event,
 ) -> Outcome
+    requires { ⌜ Marked (factsIn policy choice (now view)) b ⌝ }
     ensures { λ r. ⌜ r ≡ onSaid (factsIn policy choice (now (view .entry))) b ok e ⌝ }
 {
     if ok {
@@ -75,6 +77,7 @@ fn on_told(
     ok: bool,
     t: Told,
 ) -> Outcome
+    requires { ⌜ Marked (factsIn policy choice (now view)) b ⌝ }
     ensures { λ r. ⌜ r ≡ onTold (factsIn policy choice (now (view .entry))) b ok t ⌝ }
 {
     match t {
@@ -92,6 +95,7 @@ fn on_kind(
     kind: Kind,
     s: Said,
 ) -> Outcome
+    requires { ⌜ Marked (factsIn policy choice (now view)) b ⌝ }
     ensures { λ r. ⌜ r ≡ onTold (factsIn policy choice (now (view .entry))) b (written (shape kind) (numsOf kind (s .a) (s .b) (s .c) (s .d) (s .e))) (toldOf (eventOf kind (numsOf kind (s .a) (s .b) (s .c) (s .d) (s .e)))) ⌝ }
 {
     let ok = text_lines::written_of(kind, s.a, s.b, s.c, s.d, s.e);
@@ -101,6 +105,7 @@ fn on_kind(
 
 // The answer to what a line says.
 fn on_said(b: Board, policy: Policy, choice: OverrunChoice, view: &[u64], s: Said) -> Outcome
+    requires { ⌜ Marked (factsIn policy choice (now view)) b ⌝ }
     ensures { λ r. ⌜ r ≡ onItem (factsIn policy choice (now (view .entry))) b (saidItem s) ⌝ }
 {
     let found = s.found;
@@ -112,6 +117,7 @@ fn on_said(b: Board, policy: Policy, choice: OverrunChoice, view: &[u64], s: Sai
 
 // The answer to one event line, and the board after it.
 pub fn on_line(b: Board, policy: Policy, choice: OverrunChoice, view: &[u64], src: &[u8]) -> Outcome
+    requires { ⌜ Marked (factsIn policy choice (now view)) b ⌝ }
     ensures { λ r. ⌜ r ≡ onLine (factsIn policy choice (now (view .entry))) b (now (src .entry)) ⌝ }
 {
     let s = text_lines::said_of(src);

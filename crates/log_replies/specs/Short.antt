@@ -23,7 +23,7 @@ decimal-sized : (w n : ℕ) → 0 < w → n < 10 ^ w → Sized (decimal n) w (le
 decimal-sized w n p h = record { is = refl; small = decimal-length w n p h }
 
 -- a word and a number of at most d digits
-one-long : (w : List ℕ) (d n : ℕ) → 0 < d → n < 10 ^ d → length (line (w ∷ decimal n ∷ [])) ≤ d + 2 + length w
+pub one-long : (w : List ℕ) (d n : ℕ) → 0 < d → n < 10 ^ d → length (line (w ∷ decimal n ∷ [])) ≤ d + 2 + length w
 one-long w d n p h =
     let s = line-sized w (decimal n ∷ []) (rest-sized [] (decimal-sized d n p h) end-sized) in
     let a = s .is in let b = s .small in omega arith
@@ -42,7 +42,7 @@ plain-long = (omega arith, omega arith, omega arith)
 abbrev pub Short : BoardAnswer → Type 0
 Short a = length (line (answerFields a)) ≤ 30
 
-number-low : (r : Refusal) → numberOf r < 10 ^ 2
+pub number-low : (r : Refusal) → numberOf r < 10 ^ 2
 unfolding numberOf
 number-low r =
     elim r [

@@ -14,6 +14,7 @@ ghost use Rattle.plan_tables.specs.Layout.{lent};
 ghost use Rattle.figures.specs.System.{system};
 ghost use Rattle.board_rules.specs.Facts.{factsOf};
 ghost use Rattle.board_rules.specs.View.{factsIn};
+ghost use Rattle.board_rules.specs.Settle.{Marked};
 ghost use Rattle.board_rules.specs.Events.{repliesTo};
 ghost use Rattle.listing_lines.specs.Into.{textAnswer, textAfter};
 ghost use Rattle.listing_lines.specs.IntoLaws.{RoomFor};
@@ -28,7 +29,7 @@ fn answers_fit(
     src: &[u8],
     out: &mut [u8],
 ) -> bool
-    requires { ⌜ (length (now src) ≤ 65536) × (length (repliesTo (factsIn policy choice (now view)) b (now src)) ≤ 10 * length (now src)) ⌝ }
+    requires { ⌜ (length (now src) ≤ 65536) × (length (repliesTo (factsIn policy choice (now view)) b (now src)) ≤ 10 * length (now src)) × Marked (factsIn policy choice (now view)) b ⌝ }
     ensures { λ x. ⌜ RoomFor (repliesTo (factsIn policy choice (now (view .entry))) b (now (src .entry))) (length (now (out .entry))) x ⌝ }
     ensures { λ x. ⌜ now (out .exit) ≡ now (out .entry) ⌝ }
 {
@@ -47,7 +48,7 @@ fn answers_from(
     src: &[u8],
     out: &mut [u8],
 ) -> TextAnswer
-    requires { ⌜ (length (now src) ≤ 65536) × (length (repliesTo (factsIn policy choice (now view)) b (now src)) ≤ 10 * length (now src)) ⌝ }
+    requires { ⌜ (length (now src) ≤ 65536) × (length (repliesTo (factsIn policy choice (now view)) b (now src)) ≤ 10 * length (now src)) × Marked (factsIn policy choice (now view)) b ⌝ }
     ensures { λ a. ⌜ a ≡ textAnswer (repliesTo (factsIn policy choice (now (view .entry))) b (now (src .entry))) (now (out .entry)) ⌝ }
     ensures { λ a. ⌜ now (out .exit) ≡ textAfter (repliesTo (factsIn policy choice (now (view .entry))) b (now (src .entry))) (now (out .entry)) ⌝ }
 {

@@ -45,7 +45,7 @@ pub fn put(out: &mut [u8], w: &[u8]) -> usize
 }
 
 // Writes n in decimal.
-fn put_number(out: &mut [u8], n: u64) -> usize
+pub fn put_number(out: &mut [u8], n: u64) -> usize
     requires { ⌜ length (decimal n) ≤ length (now out) ⌝ }
     ensures { λ r. ⌜ Wrote (decimal n) (now (out .entry)) (now (out .exit)) r ⌝ }
 {

@@ -11,8 +11,9 @@ use Rattle.listing.specs.Listing.{line}
 use Rattle.board_rules.specs.declared.Board.{Board}
 use Rattle.board_rules.specs.View.{factsIn}
 use Rattle.board_rules.specs.Events.{answerFields, repliesTo}
+use Rattle.board_rules.specs.Settle.{Marked}
 use Rattle.log_replies.specs.Parts.{endText}
-use Rattle.log_answers.specs.Stays.{line-stays}
+use Rattle.log_answers.specs.Stays.{line-stays, marked-by}
 use Rattle.log_answers.specs.LoopLaws.{line-fits, replies-last, replies-next}
 use Rattle.log_answers.specs.TellLaws.{Run, run-none, run-space, run-more, run-all, told-long}
 use Rattle.log_answers.proofs.answers.Statement.{statement}
@@ -20,13 +21,13 @@ use Rattle.log_answers.proofs.answers.Tie as tie
 
 abbrev Inv-loop : tie.InvT-loop
 Inv-loop on policy choice view src out₀ t₀ n₀ at₀ out t n at =
-    (at ≤ length src) × Run on (repliesTo (factsIn policy choice view) t₀ src) out₀ out (repliesTo (factsIn policy choice view) t (drop at src)) n at
+    (at ≤ length src) × Run on (repliesTo (factsIn policy choice view) t₀ src) out₀ out (repliesTo (factsIn policy choice view) t (drop at src)) n at × Marked (factsIn policy choice view) t
 
 abbrev μ-loop : tie.MeasureT-loop
 μ-loop on policy choice view src out₀ t₀ n₀ at₀ out t n at = length src - at
 
 loop-holds : tie.Need-loop-holds Inv-loop μ-loop
-loop-holds c = (omega arith, run-none _ _ _)
+loop-holds c = (omega arith, run-none _ _ _, c .before .before .before .pre .2)
 
 -- the answers to the lines from `at` on, on the board t
 abbrev repliesAt : tie.Start Inv-loop μ-loop → Board → ℕ → List ℕ
@@ -100,7 +101,12 @@ loop-again c =
     let o = w .before .before in
     let f = o .before .before in
     let s = f .before .before .before .before .before .before .before in
-    (fits f, run-more (s .pre .1) (f .before .before .before .loop .inv .1) _ _ (next o _ refl) (f .before .cut .result) (w .tell .ensures))
+    let l = f .before .before .before .loop in
+    let F = factsIn (s .args .policy) (s .args .choice) (s .args .view .now) in (
+      fits f,
+      run-more (s .pre .1) (l .inv .1) _ _ (next o _ refl) (f .before .cut .result) (w .tell .ensures),
+      marked-by F (l .t) (l .inv .2) _ (o .on-line .result) (o .on-line .ensures),
+    )
 
 loop-less-2 : tie.Need-loop-less-2 Inv-loop μ-loop
 loop-less-2 c = omega (arith, fits (c .before .before .before .before .before .before .before .before))
@@ -114,7 +120,7 @@ loop-again-2 c =
     let s = f .before .before .before .before .before .before .before in
     let l = f .before .before .before .loop in
     let e = line-stays (factsIn (s .args .policy) (s .args .choice) (s .args .view .now)) (l .t) _ (o .on-line .result) (o .on-line .ensures) (c .before .moves .ensures) (c .if2 .left) in
-    (fits f, run-more (s .pre .1) (l .inv .1) _ _ (next o (l .t) e) (f .before .cut .result) (w .tell .ensures))
+    (fits f, run-more (s .pre .1) (l .inv .1) _ _ (next o (l .t) e) (f .before .cut .result) (w .tell .ensures), l .inv .2)
 
 pub answers-spec : {M : Type 1} → statement M
 answers-spec =

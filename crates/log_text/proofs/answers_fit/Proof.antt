@@ -15,7 +15,7 @@ returns : tie.Need-returns
 returns c = (record { is = sym (le-leb _ _ (le-trans (c .before .before .before .before .pre .1) (c .if1 .taken))) }, refl)
 
 counts : tie.Need-answers-requires
-counts c κs = (c .before .before .before .before .before .pre .0, λ e. absurd (false≢true e))
+counts c κs = let a = c .before .before .before .before .before .pre in (a .0, λ e. absurd (false≢true e), a .2)
 
 returns-2 : tie.Need-returns-2
 returns-2 c =

@@ -10,7 +10,8 @@ fits : tie.Need-answers-requires
 fits c κs =
     let t = c .before .before .before .before in
     let f = t .answers-fit .ensures in
-    (t .before .before .before .before .before .pre .0, λ e. rw (f .1) (tested-room (f .0) (c .before .if1 .taken)))
+    let a = t .before .before .before .before .before .pre in
+    (a .0, λ e. rw (f .1) (tested-room (f .0) (c .before .if1 .taken)), a .2)
 
 returns : tie.Need-returns
 returns c =

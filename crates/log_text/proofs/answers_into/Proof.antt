@@ -1,6 +1,7 @@
 -- `answers_into` meets its contract.
 use borrow.Author.Needs.{needs}
 use Rattle.figures_slices.specs.FitLaws.{given-fit}
+use Rattle.board_rules.specs.Marked.{view-marked}
 use Rattle.desk_rooms.specs.Boarded.{view-short, view-text}
 use Rattle.log_text.proofs.answers_into.Statement.{statement}
 use Rattle.log_text.proofs.answers_into.Tie as tie
@@ -13,7 +14,7 @@ short c κs =
     let f = c .before .before in
     let w = f .before .before .before in
     let a = w .before .before .before .before .before .before .before .before in
-    (a .pre .1, view-short _ _ _ (a .pre .0) (w .fill-view .ensures) _ _ (f .fresh .ensures))
+    (a .pre .1, view-short _ _ _ (a .pre .0) (w .fill-view .ensures) _ _ (f .fresh .ensures), view-marked _ _ _ _ (f .fresh .ensures _ _))
 
 returns : tie.Need-returns
 returns c =

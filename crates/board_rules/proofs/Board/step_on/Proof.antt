@@ -25,13 +25,13 @@ step-on-spec =
     tie.close
     (tie.spec
     (λ c. search needs)
-    (λ c κs. search needs)
+    (λ c κs. c .before .before .before .before .pre)
     (λ c. search needs)
-    (λ c κs. search needs)
+    (λ c κs. c .before .before .before .before .pre)
     (λ c. search needs)
-    (λ c κs. search needs)
+    (λ c κs. c .before .before .before .before .pre)
     (λ c. search needs)
-    (λ c κs. search needs)
+    (λ c κs. c .before .before .before .before .pre)
     (λ c. search needs)
     (λ c κs. search needs)
     (λ c κs. search needs)
