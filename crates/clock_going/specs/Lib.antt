@@ -1,1 +1,2 @@
 pub mod Going
+pub mod Lines

@@ -3,7 +3,7 @@
 use Prim.Native.Nat.{ℕ, _+_, _-_, _*_, _<_, _≤_}
 use mathlib.Core.Path.{_≡_}
 use mathlib.Core.List.{List}
-use mathlib.Core.Bool.{Bool, true, false, _&&_, not}
+use mathlib.Core.Bool.{Bool, false, _&&_, not}
 use lib.Dec.{eqb, ltb}
 use lib.ListN.{length, getD}
 use Rattle.laws.specs.Choice.{if_then_else_}
@@ -13,11 +13,12 @@ use Rattle.plan.specs.declared.OverrunChoice.the-variants.{WithOverrun, Without
 use Rattle.board_seats.specs.Seats.{seat}
 use Rattle.board_rules.specs.Facts.{Facts}
 use Rattle.board_rules.specs.declared.Board.{Board}
+pub use Rattle.board_rules.specs.Lent.{boardOf}
 use Rattle.board_rules.specs.Board.{leftOf, overOf, isStopped, holdsGlobal, heldGlobal, heldLocal}
 use Rattle.board_keeps.specs.Fair.{InV, InN}
 use Rattle.clock_rules.specs.Clock.{Timing, Run, bySeat, isReady, hasReady, isOn}
 use Rattle.clock_sets.specs.Sets.{inSet}
-use Rattle.clock_times.specs.Times.{atBegin, atEnd, atMutex, lockCell}
+use Rattle.clock_times.specs.Times.{atEnd, atMutex, lockCell}
 
 -- WHERE EACH KIND BEGINS. The sets of VCPUs: those with budget, those whose overrun would count under a global mutex, those with a ready task, those whose
 -- tasks hold a global mutex
@@ -80,10 +81,7 @@ placeCell k v n = getD k (atPlace + seat v n) 0
 abbrev pub doneIn : List ℕ → List ℕ
 doneIn k = bySeat (λ v n. doneCell k v n)
 
--- the board of five lists, and the state of a run that the lists say
-abbrev pub boardOf : List ℕ → List ℕ → List Bool → List ℕ → List ℕ → Board
-boardOf ls os ss hs ws = record { left = ls; over = os; stopped = ss; holder = hs; waits = ws }
-
+-- the state of a run that the lists say
 abbrev pub runIn : List ℕ → List ℕ → List Bool → List ℕ → List ℕ → List ℕ → Run
 runIn ls os ss hs ws k = record { board = boardOf ls os ss hs ws; done = doneIn k }
 

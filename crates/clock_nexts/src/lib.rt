@@ -85,15 +85,3 @@ pub fn soonest(times: &[u64], marks: &[u64]) -> u64
     }
     r
 }
-
-// Before tick 0 all recur at tick 0.
-pub fn start(marks: &mut [u64])
-    requires { ⌜ length (now marks) ≡ 568 ⌝ }
-    ensures { λ out. ⌜ ((x : List ℕ) → Nexts x (now (marks .exit)) 0) × ElseSame (now (marks .entry)) (now (marks .exit)) ⌝ }
-{
-    let mut i = 0;
-    while i < 144 {
-        marks[420 + i] = 0;
-        i += 1;
-    }
-}

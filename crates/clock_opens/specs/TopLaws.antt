@@ -9,8 +9,8 @@ use native.Mathlib.Numerals.{add-one}
 use native.Mathlib.Decide.{decLe}
 use lib.Dec.{ltb}
 use lib.ListN.{length}
-use Rattle.laws.specs.Choice.{if_then_else_}
 use Rattle.laws.specs.Range.{flatTo}
+use Rattle.laws.specs.Choice.{if_then_else_}
 use Rattle.plan.specs.Limits.{maxV}
 use Rattle.plan.specs.declared.OverrunChoice.{OverrunChoice}
 use Rattle.board_rules.specs.Facts.{Facts}
@@ -34,18 +34,11 @@ use Rattle.clock_steps.specs.Running.{after-shaped}
 use Rattle.clock_nexts.specs.Nexts.{places, nextAt, isDue}
 use Rattle.clock_puts.specs.Puts as puts
 use Rattle.clock_mirrors.specs.Supplies.{PutSupply, top-mirrors}
+use Rattle.clock_going.specs.Lines.{lines-append}
 use Rattle.clock_opens.specs.Opens.{topAt, topsTo, OneTop, Topped}
 use Rattle.clock_opens.specs.KeepLaws.{due-kept}
 
--- LINES of events one after the other
-pub lines-append : (F : Facts) (t : ℕ) (b : Board) (xs ys : List Event) → linesAt F t b (xs ++ ys) ≡ linesAt F t b xs ++ linesAt F t (boardAfter F b xs) ys
-unfolding linesAt boardBy
-lines-append F t b [] ys = refl
-lines-append F t b (e ∷ xs) ys =
-    ap (λ l. eventLine t e (step F b e .answer) ++ l) (lines-append F t (step F b e .board) xs ys)
-    ∙ sym (append-assoc (eventLine t e (step F b e .answer)) (linesAt F t (step F b e .board) xs) _)
-
--- of one event
+-- LINES of one event
 one-line : (F : Facts) (t : ℕ) (b : Board) (e : Event) → linesAt F t b (e ∷ []) ≡ eventLine t e (step F b e .answer)
 unfolding linesAt
 one-line F t b e = append-nil _

@@ -1,17 +1,16 @@
--- Scans of the numbers from 1 to n: from the highest down for the topmost by a measure, and from the lowest up for the first that passes.
-use Prim.Native.Nat.{ℕ, suc, zero, _+_, _-_, _<_, _≤_}
-use mathlib.Core.Path.{_≡_, refl, sym, _∙_, ap, subst}
+-- Scans of the numbers from 1 to n from the highest down, for the topmost by a measure.
+use Prim.Native.Nat.{ℕ, _-_, _<_, _≤_}
+use mathlib.Core.Path.{_≡_, refl, sym, _∙_, ap}
 use mathlib.Core.Bool.{Bool, true, false, _||_, not}
 use mathlib.Core.Logic.{_⊎_, inl, inr, ⊎-elim}
-use native.Mathlib.Nat.{le-antisymm}
 use native.Mathlib.Omega.{arith}
 use borrow.Author.Tests.{le-leb, lt-leb}
 use lib.Dec.{leb}
 use Rattle.laws.specs.Choice.{when}
-use Rattle.laws.specs.Range.{anyTo, highest}
-use Rattle.laws.specs.RangeLaws.{any-none, any-more, any-hit, none-of, all-of, all-miss, highest-is, highest-zero}
+use Rattle.laws.specs.Range.{highest}
+use Rattle.laws.specs.RangeLaws.{none-of, all-of, all-miss, highest-is, highest-zero}
 use Rattle.laws.specs.BoolLaws.{both, bool-cases, is-false, clash, same-or-not}
-use Rattle.laws_picks.specs.Picks.{lowest, isTop, topOf}
+use Rattle.laws_picks.specs.Picks.{isTop, topOf}
 
 -- what is known of a topmost one when those above k are seen: none passes, or `best` is it, and `high` its measure
 pub record Best (n : ℕ) (f : ℕ → Bool) (p : ℕ → ℕ) (k best high : ℕ) : Type 0 where
@@ -95,44 +94,3 @@ module _ {n : ℕ} {f : ℕ → Bool} {p : ℕ → ℕ} where
               (rw (b .is) (lt-leb (p best) (p j) (let m = b .before j a c y in let q = b .measure in omega arith)))))
               (λ y. rw y)
               (bool-cases (f j))
-
--- none of 1 to i, of 1 to n, passes: the lowest is yet to come
-pub record Rising (n : ℕ) (f : ℕ → Bool) (i : ℕ) : Type 0 where
-  pub within : i ≤ n
-  pub none : anyTo i f ≡ false
-
-lowest-of-none : (n : ℕ) (f : ℕ → Bool) → anyTo n f ≡ false → lowest n f ≡ 0
-unfolding lowest anyTo when
-lowest-of-none zero f e = refl
-lowest-of-none (suc n) f e = go (f (suc n)) refl (anyTo n f) refl
-  where
-    go : (a : Bool) → f (suc n) ≡ a → (b : Bool) → anyTo n f ≡ b → lowest (suc n) f ≡ 0
-    go true x b y = absurd (clash (rw x) e)
-    go false x true y = absurd (clash (rw x y) e)
-    go false x false y = rw (y, lowest) (rw x)
-
-lowest-last : (n : ℕ) (f : ℕ → Bool) → anyTo n f ≡ false → f (suc n) ≡ true → lowest (suc n) f ≡ suc n
-unfolding lowest when
-lowest-last n f a e = rw (a, lowest) (rw e)
-
-lowest-at : (n k : ℕ) (f : ℕ → Bool) → k < n → anyTo k f ≡ false → f (suc k) ≡ true → lowest n f ≡ suc k
-unfolding lowest
-lowest-at zero k f l a e = absurd (omega arith)
-lowest-at (suc n) k f l a e =
-    ⊎-elim
-    (λ q. subst (λ i. lowest (suc i) f ≡ suc k) q (lowest-last k f a e))
-    (λ ne. rw (any-hit n (suc k) f (omega arith) (omega arith) e, lowest) (lowest-at n k f (omega arith) a e))
-    (same-or-not k n)
-
-module _ {n : ℕ} {f : ℕ → Bool} where
-  pub rising-none : Rising n f 0
-  rising-none = record { within = omega arith; none = any-none f }
-
-  pub rising-more : {i : ℕ} → Rising n f i → i < n → f (i + 1) ≡ false → Rising n f (i + 1)
-  rising-more {i} h l e = record { within = omega arith; none = any-more i f (h .none) e }
-
-  pub rising-out : {i : ℕ} → Rising n f i → i < n → f (i + 1) ≡ true → i + 1 ≡ lowest n f
-  rising-out {i} h l e = let u : suc i ≡ i + 1 = omega arith in sym u ∙ sym (lowest-at n i f l (h .none) (ap f u ∙ e))
-
-  pub rising-all : {i : ℕ} → Rising n f i → n ≤ i → 0 ≡ lowest n f
-  rising-all h l = sym (lowest-of-none n f (ap (λ i. anyTo i f) (le-antisymm l (h .within)) ∙ h .none))

@@ -15,8 +15,6 @@ pub const BUDGET: usize = 0;
 
 pub const SPARE: usize = 1;
 
-pub const READY: usize = 2;
-
 pub const HOLDING: usize = 3;
 
 // s with x, or without it.

@@ -1,7 +1,7 @@
 -- Events made one after the other, and told one behind the other.
 use Prim.Native.Nat.{ℕ, _+_}
-use mathlib.Core.Path.{_≡_, refl, ap, sym, subst, subst₂, _∙_}
-use mathlib.Core.List.{List, [], _∷_, _++_, append-assoc, append-nil}
+use mathlib.Core.Path.{_≡_, ap, sym, subst, subst₂, _∙_}
+use mathlib.Core.List.{List, [], _∷_, _++_, append-nil}
 use mathlib.Core.Bool.{Bool}
 use lib.ListN.{length}
 use Rattle.board_rules.specs.Facts.{Facts}
@@ -16,14 +16,7 @@ use Rattle.clock_rules.specs.Trace.{eventLine, linesAt}
 use Rattle.clock_steps.specs.Accepted.{board-append}
 use Rattle.clock_lines.specs.Told.{toldAt, toldTo, RoomAt, told-none, told-to-none, told-two, told-to-two, told-length, room-first, room-rest}
 use Rattle.clock_going.specs.Going.{Made}
-
--- the lines of two lists of events
-pub lines-append : (F : Facts) (i : ℕ) (b : Board) (xs ys : List Event) → linesAt F i b (xs ++ ys) ≡ linesAt F i b xs ++ linesAt F i (boardAfter F b xs) ys
-unfolding linesAt boardBy
-lines-append F i b [] ys = refl
-lines-append F i b (e ∷ xs) ys =
-    ap (λ l. eventLine i e (step F b e .answer) ++ l) (lines-append F i (step F b e .board) xs ys)
-    ∙ sym (append-assoc (eventLine i e (step F b e .answer)) (linesAt F i (step F b e .board) xs) _)
+use Rattle.clock_going.specs.Lines.{lines-append}
 
 -- the lines of one event
 pub lines-one : (F : Facts) (i : ℕ) (b : Board) (e : Event) → linesAt F i b (e ∷ []) ≡ eventLine i e (step F b e .answer)
