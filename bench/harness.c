@@ -1,10 +1,13 @@
 /* Times the proved functions and the oracle's on one input, in one process.
  *
- *   harness NAME PLAN [EVENTS]
+ *   harness verdict NAME PLAN
+ *   harness board NAME PLAN EVENTS
+ *   harness run NAME PLAN HORIZON      without a trace: no text comes out
  *
  * prints NAME, the bytes in, the bytes out, the nanoseconds of one proved call and of one Rust call, and their ratio.
  * The two sides take turns; a sample is as many calls as take some milliseconds; the best sample counts. Status 1 where
- * the two texts differ. With ONLY=proved or ONLY=rust one side runs alone for a second, for a profile. */
+ * the two answers differ, or a run misses a job, so that it would be shorter than its horizon. With ONLY=proved or ONLY=rust
+ * one side runs alone for a second, for a profile. */
 #include <stdio.h>
 #include <stdlib.h>
 #include <string.h>
@@ -14,12 +17,15 @@
 
 int64_t rust_verdict(const uint8_t *, size_t, uint8_t *, size_t);
 int64_t rust_board(const uint8_t *, size_t, const uint8_t *, size_t, uint8_t *, size_t);
+int64_t rust_run(const uint8_t *, size_t, uint64_t, uint64_t *);
 
-enum { LIMIT = 1 << 20, SAMPLES = 400 };
+/* A run of a million ticks takes as long as a dozen samples of the others. */
+enum { LIMIT = 1 << 20, SAMPLES = 400, RUN_SAMPLES = 100 };
 
 static uint8_t plan[LIMIT], events[LIMIT], proved_out[RYEFROST_BOARD_BYTES], rust_out[RYEFROST_BOARD_BYTES];
 static size_t plan_size, events_size;
-static int has_events;
+static uint64_t horizon, proved_missed[RYEFROST_MISSED_SIZE], rust_missed[RYEFROST_MISSED_SIZE];
+static enum { VERDICT, BOARD, RUN } what;
 
 static size_t read_file(const char *path, uint8_t *to) {
     FILE *f = fopen(path, "rb");
@@ -33,13 +39,46 @@ static size_t read_file(const char *path, uint8_t *to) {
 }
 
 static int64_t proved(void) {
-    return has_events ? ryefrost_board(plan, plan_size, events, events_size, proved_out, sizeof proved_out)
-                      : ryefrost_verdict(plan, plan_size, proved_out, sizeof proved_out);
+    switch (what) {
+    case BOARD:
+        return ryefrost_board(plan, plan_size, events, events_size, proved_out, sizeof proved_out);
+    case RUN:
+        return ryefrost_run(plan, plan_size, horizon, proved_missed, RYEFROST_MISSED_SIZE);
+    default:
+        return ryefrost_verdict(plan, plan_size, proved_out, sizeof proved_out);
+    }
 }
 
 static int64_t rust(void) {
-    return has_events ? rust_board(plan, plan_size, events, events_size, rust_out, sizeof rust_out)
-                      : rust_verdict(plan, plan_size, rust_out, sizeof rust_out);
+    switch (what) {
+    case BOARD:
+        return rust_board(plan, plan_size, events, events_size, rust_out, sizeof rust_out);
+    case RUN:
+        return rust_run(plan, plan_size, horizon, rust_missed);
+    default:
+        return rust_verdict(plan, plan_size, rust_out, sizeof rust_out);
+    }
+}
+
+/* The bytes that both sides write; it ends where their answers differ. */
+static int64_t compared(const char *name) {
+    int64_t a = proved(), b = rust();
+    if (what == RUN) {
+        if (a != b || memcmp(proved_missed, rust_missed, sizeof rust_missed) != 0) {
+            fprintf(stderr, "harness: %s: the two runs differ\n", name);
+            exit(1);
+        }
+        if (a != RYEFROST_ENDED) {
+            fprintf(stderr, "harness: %s: the run does not come to its horizon\n", name);
+            exit(1);
+        }
+        return 0;
+    }
+    if (a < 0 || a != b || memcmp(proved_out, rust_out, (size_t)a) != 0) {
+        fprintf(stderr, "harness: %s: the two texts differ\n", name);
+        exit(1);
+    }
+    return a;
 }
 
 static double now(void) {
@@ -66,20 +105,19 @@ static long calls_for(int64_t (*call)(void)) {
 }
 
 int main(int argc, char **argv) {
-    if (argc < 3 || argc > 4) {
-        fprintf(stderr, "usage: harness NAME PLAN [EVENTS]\n");
+    const char *word = argc > 1 ? argv[1] : "";
+    what = strcmp(word, "board") == 0 ? BOARD : strcmp(word, "run") == 0 ? RUN : VERDICT;
+    if (argc != (what == VERDICT ? 4 : 5) || (what == VERDICT && strcmp(word, "verdict") != 0)) {
+        fprintf(stderr, "usage: harness verdict NAME PLAN | board NAME PLAN EVENTS | run NAME PLAN HORIZON\n");
         return 2;
     }
-    plan_size = read_file(argv[2], plan);
-    has_events = argc == 4;
-    if (has_events)
-        events_size = read_file(argv[3], events);
+    plan_size = read_file(argv[3], plan);
+    if (what == BOARD)
+        events_size = read_file(argv[4], events);
+    if (what == RUN)
+        horizon = strtoull(argv[4], NULL, 10);
 
-    int64_t a = proved(), b = rust();
-    if (a < 0 || a != b || memcmp(proved_out, rust_out, (size_t)a) != 0) {
-        fprintf(stderr, "harness: %s: the two texts differ\n", argv[1]);
-        return 1;
-    }
+    int64_t out = compared(argv[2]);
     const char *only = getenv("ONLY");
     if (only) {
         for (double from = now(); now() - from < 1e9;)
@@ -89,12 +127,12 @@ int main(int argc, char **argv) {
 
     long m = calls_for(proved), n = calls_for(rust);
     double best_proved = 1e300, best_rust = 1e300;
-    for (int i = 0; i < SAMPLES; i++) {
+    for (int i = 0; i < (what == RUN ? RUN_SAMPLES : SAMPLES); i++) {
         double p = sample(proved, m), r = sample(rust, n);
         best_proved = p < best_proved ? p : best_proved;
         best_rust = r < best_rust ? r : best_rust;
     }
-    printf("%-20s %7zu %7lld %14.0f %14.0f %8.2f\n", argv[1], plan_size + events_size, (long long)a, best_proved,
+    printf("%-20s %7zu %7lld %14.0f %14.0f %8.2f\n", argv[2], plan_size + events_size, (long long)out, best_proved,
            best_rust, best_proved / best_rust);
     return 0;
 }

@@ -1,19 +1,20 @@
-/* Calls the proved functions with each size of buffer: calls PLAN LISTING EVENTS ANSWERS. Status 1 where a call does not
- * return the text's size and write the text with the rest left as it was, or return -8 and leave the whole buffer. */
+/* Calls the proved functions with each size of buffer: calls PLAN LISTING EVENTS ANSWERS MISSING. Status 1 where a call does
+ * not return the text's size and write the text with the rest left as it was, or return -8 and leave the whole buffer; or
+ * where a run does not end as it should, PLAN in time to any horizon and MISSING with (1, 1) missed at tick 27. */
 #include <stdio.h>
 #include <stdlib.h>
 #include <string.h>
 
 #include "../examples/c/ryefrost.h"
 
-enum { ROOM = 4096, MARK = 0xA5 };
+enum { ROOM = 4096, MARK = 0xA5, PLACES = 5 };
 
 struct bytes {
     uint8_t at[65538];
     size_t size;
 };
 
-static struct bytes plan, listing, events, answers, large;
+static struct bytes plan, listing, events, answers, missing, large, unnumbered, outside;
 
 static void read_file(const char *path, struct bytes *to) {
     FILE *file = fopen(path, "rb");
@@ -51,19 +52,62 @@ static int all_sizes(const struct bytes *input, const struct bytes *then, const 
     return 1;
 }
 
+/* Does a run return this, with 27, 1, 1 where it is 1, and leave every other place as it was? */
+static int runs(const struct bytes *input, uint64_t horizon, size_t places, int64_t wanted) {
+    static const uint64_t first[RYEFROST_MISSED_SIZE] = {27, 1, 1};
+    uint64_t missed[PLACES], left[PLACES];
+    memset(missed, MARK, sizeof missed);
+    memset(left, MARK, sizeof left);
+    if (wanted == RYEFROST_MISSED)
+        memcpy(left, first, sizeof first);
+    int64_t r = ryefrost_run(input->at, input->size, horizon, missed, places);
+    if (r == wanted && memcmp(missed, left, sizeof left) == 0)
+        return 1;
+    fprintf(stderr, "exports.c: run of %zu bytes to %llu with %zu places: %lld, not %lld, or a place is wrong\n", input->size,
+            (unsigned long long)horizon, places, (long long)r, (long long)wanted);
+    return 0;
+}
+
+/* A copy of the plan with one byte after this text changed. */
+static void change(const char *after, char to, struct bytes *copy) {
+    *copy = plan;
+    char *at = strstr((char *)copy->at, after);
+    if (!at)
+        exit(2);
+    at[strlen(after)] = to;
+}
+
+/* Ended and missed; then the refusals, and which comes first where there are several. */
+static int all_runs(void) {
+    static const struct bytes none = {.size = 0};
+    const size_t three = RYEFROST_MISSED_SIZE;
+    change("\nvcpu\t", 'x', &unnumbered);
+    change("\nvcpu\t", '0', &outside);
+    return runs(&plan, 200, three, RYEFROST_ENDED) && runs(&plan, 1, three, RYEFROST_ENDED) &&
+           runs(&plan, 1000000, PLACES, RYEFROST_ENDED) && runs(&missing, 28, three, RYEFROST_MISSED) &&
+           runs(&missing, 1000000, PLACES, RYEFROST_MISSED) && runs(&missing, 27, three, RYEFROST_ENDED) &&
+           runs(&plan, 0, three, -3) && runs(&plan, 1000001, three, -3) && runs(&missing, UINT64_MAX, three, -3) &&
+           runs(&none, 200, three, -1) && runs(&unnumbered, 200, three, -2) && runs(&outside, 200, three, -3) &&
+           runs(&unnumbered, 0, three, -2) && runs(&large, 200, three, RYEFROST_ROOM) &&
+           runs(&large, 0, PLACES, RYEFROST_ROOM) && runs(&missing, 28, 2, RYEFROST_ROOM) &&
+           runs(&missing, 0, 1, RYEFROST_ROOM) && runs(&unnumbered, 28, 0, RYEFROST_ROOM) &&
+           runs(&large, 0, 2, RYEFROST_ROOM);
+}
+
 int main(int argc, char **argv) {
-    if (argc != 5)
+    if (argc != 6)
         return 2;
     read_file(argv[1], &plan);
     read_file(argv[2], &listing);
     read_file(argv[3], &events);
     read_file(argv[4], &answers);
+    read_file(argv[5], &missing);
 
     static const struct bytes none = {.size = 0}, shape = {.at = "refused\t1\t1\n", .size = 12},
                               room = {.at = "refused\t8\t0\n", .size = 12};
     large.size = 65537;
     int ok = all_sizes(&plan, NULL, &listing) && all_sizes(&plan, &events, &answers) && all_sizes(&none, NULL, &shape) &&
              all_sizes(&none, &events, &shape) && all_sizes(&plan, &none, &none) && all_sizes(&large, NULL, &room) &&
-             all_sizes(&large, &events, &room) && all_sizes(&plan, &large, &room);
+             all_sizes(&large, &events, &room) && all_sizes(&plan, &large, &room) && all_runs();
     return ok ? 0 : 1;
 }

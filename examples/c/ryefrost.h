@@ -1,8 +1,9 @@
 /* The proved functions of libexports.a (`rt staticlib exports`: target/staticlib/libexports.a, x86-64).
  *
- * Each writes the text that a program prints into `out` and returns its size in bytes. With too little room it returns
- * -8 and leaves `out` as it was. No input is too strange: a refused plan is a text too, `refused`, its number, its line.
- * `out` shares no byte with the inputs. A pointer is never null, even where its size is 0. */
+ * The first two write the text that a program prints into `out` and return its size in bytes. With too little room they
+ * return -8 and leave `out` as it was. No input is too strange: a refused plan is a text too, `refused`, its number, its
+ * line. The third writes no text, and returns how a run ends.
+ * `out` and `missed` share no byte with the inputs. A pointer is never null, even where its size is 0. */
 #ifndef RYEFROST_H
 #define RYEFROST_H
 
@@ -13,8 +14,15 @@
 #define RYEFROST_VERDICT_BYTES 16803
 #define RYEFROST_BOARD_BYTES 655360
 
-/* Too little room in `out`. */
+/* The numbers that `missed` is to have places for. */
+#define RYEFROST_MISSED_SIZE 3
+
+/* Too little room in `out` or `missed`, or for `ryefrost_run` a plan above 65,536 bytes. */
 #define RYEFROST_ROOM (-8)
+
+/* How a run ends. */
+#define RYEFROST_ENDED 0
+#define RYEFROST_MISSED 1
 
 #ifdef __cplusplus
 extern "C" {
@@ -26,6 +34,12 @@ int64_t ryefrost_verdict(const uint8_t *input, size_t input_size, uint8_t *out, 
 /* What `board` prints for a plan and events. */
 int64_t ryefrost_board(const uint8_t *plan, size_t plan_size, const uint8_t *events, size_t events_size,
                        uint8_t *out, size_t out_size);
+
+/* Runs a plan on a clock as `clock` does, from tick 0 to before the tick `horizon`, and prints nothing. Returns 0 where no
+ * job is missed; 1 where one is, with the tick, v and n of the first in missed[0] to missed[2]; or minus a refusal's
+ * number: 8 for a plan above 65,536 bytes or less than three places, else the plan's own, 1 to 7, else 3 for a horizon
+ * outside 1 to 1,000,000. Unless it returns 1, `missed` is left as it was, and places after the third always are. */
+int64_t ryefrost_run(const uint8_t *plan, size_t plan_size, uint64_t horizon, uint64_t *missed, size_t missed_size);
 
 #ifdef __cplusplus
 }

@@ -1,22 +1,30 @@
 -- What an event writes into lent lists is the board after it, where no mark was due and lacking.
-use Prim.Native.Nat.{ℕ, _-_}
+use Prim.Native.Nat.{ℕ, _-_, _<_}
 use mathlib.Core.Path.{_≡_, refl, sym, ap, ap₂, subst, _∙_}
 use mathlib.Core.List.{List}
-use mathlib.Core.Bool.{Bool, true, false}
+use mathlib.Core.Bool.{Bool, true, false, _||_, _&&_, not, or-false}
 use native.Mathlib.Omega.{arith}
+use borrow.Author.Tests.{le-leb, ne-eqb}
+use lib.Dec.{eqb}
 use lib.ListN.{getD, set, length}
-use lib.Seq.{getD-set-same}
+use lib.Seq.{set-getD, getD-set-same}
+use Rattle.laws.specs.BoolLaws.{miss-right}
 use Rattle.plan.specs.Limits.{maxV}
 use Rattle.plan.specs.declared.Policy.{Policy}
 use Rattle.plan.specs.declared.OverrunChoice.{OverrunChoice}
-use Rattle.board_seats.specs.Seats.{isGlobal, budgetOf, overrunOf}
-use Rattle.board_supply.specs.Supplies.{nextMark, budgetAfter, overrunAfter}
+use Rattle.plan.specs.declared.Fault.the-variants.{Clear}
+use Rattle.plan.specs.JudgeLaws.{clear-test}
+use Rattle.board_seats.specs.Seats.{isGlobal, budgetOf, overrunOf, hasVcpu}
+use Rattle.board_supply.specs.Supplies.{nextMark, budgetAfter, overrunAfter, askFaultAt, underP, reserve, idle, useFaultAt}
+use Rattle.board_supply.specs.SupplyLaws.{Known, known-range, vcpu-range, unless-yes, fits-left}
 use Rattle.board_turns.specs.Turns.{mayHaveAt}
 use Rattle.board_rules.specs.Facts.{Facts}
 use Rattle.board_rules.specs.View.{factsIn}
-use Rattle.board_rules.specs.Names.{InV, InM}
-use Rattle.board_rules.specs.Board.{Board, BoardAnswer, Event, Outcome, step, Next, Left, Granted, Waits, Freed, seat, waitOf, nextOf, holdsGlobal, mustStop, withLeft, withStopped, handedTo, grantedLocal, nextGlobal, nextLocal, used, topped, asked, freedGlobal, freedLocal}
-use Rattle.board_rules.specs.BoardLaws.{settled-in, next-some}
+use Rattle.board_rules.specs.Names.{InV, InM, in-m, in-v}
+use Rattle.board_rules.specs.Board.{Board, BoardAnswer, Event, Ask, Outcome, answered, askFault, isBusy, supply, passes, mayHave, step, Next, Left, Granted, Waits, Freed, seat, waitOf, nextOf, holdsGlobal, mustStop, withLeft, withStopped, handedTo, grantedLocal, nextGlobal, nextLocal, used, topped, asked, freedGlobal, freedLocal, Use}
+use Rattle.board_rules.specs.BoardLaws.{settled-in, next-some, use-by}
+use Rattle.plan.specs.declared.Refusal.the-variants.{Unknown}
+use Rattle.board_walks.specs.Walks as walks
 use Rattle.board_rules.specs.Settle.{Marked, settledAt, completeAt}
 use Rattle.board_rules.specs.SettleEvents.{OwnHeld}
 use Rattle.board_rules.specs.Marked.{step-marked}
@@ -43,6 +51,16 @@ left-told : (l o : List ℕ) (v x y : ℕ) → InV v → length l ≡ maxV → l
 left-told l o v x y i n m =
     sym (ap₂ Left (getD-set-same l (v - 1) x 0 (let a = i .from in let b = i .to in omega (arith, n))) (getD-set-same o (v - 1) y 0 (let a = i .from in let b = i .to in omega (arith, m))))
 
+-- whether a task may have m, and whether an ask has a fault, as the lists say it
+pub may-in : (p : Policy) (c : OverrunChoice) (t : List ℕ) (b : Board) (v n m : ℕ) → mayHaveAt t (b .holder) v n m ≡ mayHave (factsIn p c t) b v n m
+unfolding mayHave passes factsIn
+may-in p c t b v n m = refl
+
+pub fault-in : (p : Policy) (c : OverrunChoice) (t : List ℕ) (b : Board) (v n m : ℕ) →
+    askFaultAt c t (b .left) (b .over) (b .stopped) (b .holder) (b .waits) v n m ≡ askFault (factsIn p c t) b v n m
+unfolding askFault factsIn supply holdsGlobal isBusy
+fault-in p c t b v n m = refl
+
 module _ (p : Policy) (c : OverrunChoice) (t l o : List ℕ) (s : List Bool) (h w : List ℕ) (n : length s ≡ maxV) (k : Marked (factsIn p c t) (boardOf l o s h w)) where
   -- `use v x`
   pub use-told : (v x i : ℕ) → InV v → length l ≡ maxV → length o ≡ maxV → i ≡ v - 1 → {b d : ℕ} → b ≡ budgetAfter l v x → d ≡ overrunAfter l o v x →
@@ -52,6 +70,45 @@ module _ (p : Policy) (c : OverrunChoice) (t l o : List ℕ) (s : List Bool) (h 
       rw (es, eb, ed, e)
       (ap₂ outcomeOf (left-told l o v _ _ iv nl nd) (mark-told p c t (withLeft (boardOf l o s h w) v (budgetAfter l v x) (overrunAfter l o v x)) v refl)
       ∙ complete-use p c t (boardOf l o s h w) n k v x iv)
+
+  -- `use v 1`, where more than one tick is left of the budget: no mark changes, nor does the overrun left
+  module _ (v i : ℕ) (hv : hasVcpu t v ≡ true) (nl : length l ≡ maxV) (nd : length o ≡ maxV) (e : i ≡ v - 1) (more : 1 < getD l (v - 1) 0) where
+    -- the budget left, by its place
+    left-by : getD l i 0 ≡ getD l (v - 1) 0
+    left-by = ap (λ j. getD l j 0) e
+
+    -- the VCPU stands above 0 still
+    stands : eqb (getD (set l i (getD l i 0 - 1)) (v - 1) 0) 0 ≡ false
+    stands =
+        let r = vcpu-range t v hv in
+        let q : getD (set l i (getD l i 0 - 1)) (v - 1) 0 ≡ getD l i 0 - 1 =
+        ap (λ j. getD (set l j (getD l i 0 - 1)) (v - 1) 0) e ∙ getD-set-same l (v - 1) (getD l i 0 - 1) 0 (omega (arith, nl)) in
+        let lb = left-by in
+        ne-eqb (getD (set l i (getD l i 0 - 1)) (v - 1) 0) 0 (λ z. omega arith)
+
+    -- so its mark stays
+    mark-still : s ≡ set s (v - 1) (nextMark p t (set l i (getD l i 0 - 1)) s h v)
+    mark-still =
+        let no-idle : idle t (set l i (getD l i 0 - 1)) h v ≡ false =
+        miss-right (hasVcpu t v) _ (ap (λ x. x && not (walks.holdsGlobal t h v)) stands) in
+        sym (set-getD s (v - 1) false)
+        ∙ ap (set s (v - 1)) (sym (ap (λ x. getD s (v - 1) false || x) (miss-right (underP p) _ no-idle) ∙ or-false (getD s (v - 1) false)))
+
+    -- and the event is not refused
+    use-clear : useFaultAt c t l o s h v 1 ≡ Clear
+    use-clear =
+        sym (unless-yes Unknown _ hv)
+        ∙ sym (fits-left (getD l (v - 1) 0) (reserve c (walks.holdsGlobal t h v) (getD s (v - 1) false) (getD o (v - 1) 0)) 1 (le-leb 1 (getD l (v - 1) 0) (omega arith)))
+
+    pub within-told : outcomeOf (Left (getD l i 0 - 1) (getD o i 0)) (boardOf (set l i (getD l i 0 - 1)) o s h w) ≡ step (factsIn p c t) (boardOf l o s h w) (Use v 1)
+    within-told =
+        let r = vcpu-range t v hv in
+        ap (λ y. outcomeOf (Left (getD l i 0 - 1) (getD o i 0)) (boardOf (set l i (getD l i 0 - 1)) y s h w)) (sym (set-getD o i 0))
+        ∙ use-told v 1 i (in-v (r .0) (r .1)) nl nd e (ap (λ x. x - 1) left-by) (over-still ∙ ap (λ j. getD o j 0 - (1 - getD l (v - 1) 0)) e) mark-still
+        ∙ sym (use-by p c t (boardOf l o s h w) v 1 use-clear)
+      where
+        over-still : getD o i 0 ≡ getD o i 0 - (1 - getD l (v - 1) 0)
+        over-still = omega arith
 
   -- `top v`
   pub top-told : (v i : ℕ) → InV v → length l ≡ maxV → length o ≡ maxV → i ≡ v - 1 → {b d : ℕ} → b ≡ budgetOf t v → d ≡ overrunOf t v →
@@ -70,6 +127,24 @@ module _ (p : Policy) (c : OverrunChoice) (t l o : List ℕ) (s : List Bool) (h 
   pub wait-told : (v j m : ℕ) → mayHaveAt t h v j m ≡ false → {w′ : List ℕ} → w′ ≡ set w (seat v j - 1) m →
       outcomeOf Waits (boardOf l o s h w′) ≡ asked (factsIn p c t) (boardOf l o s h w) v j m
   wait-told v j m e ew = rw ew (complete-wait p c t (boardOf l o s h w) n k v j m e)
+
+  -- `ask v j m` that has no fault: the names in it are in range, and it is granted or waits by whether the task may have m
+  module _ (v j m : ℕ) (f : askFault (factsIn p c t) (boardOf l o s h w) v j m ≡ Clear) where
+    pub sure-range : Known v j m
+    sure-range = known-range t v j m (unfold askFault factsIn in clear-test _ _ _ f)
+
+    sure-asked : asked (factsIn p c t) (boardOf l o s h w) v j m ≡ step (factsIn p c t) (boardOf l o s h w) (Ask v j m)
+    unfolding step
+    sure-asked = sym (ap (λ y. answered (boardOf l o s h w) y (asked (factsIn p c t) (boardOf l o s h w) v j m)) f)
+
+    module _ {may : Bool} (a : may ≡ mayHave (factsIn p c t) (boardOf l o s h w) v j m) where
+      pub sure-granted : may ≡ true → {x : ℕ} → x ≡ seat v j → {h′ : List ℕ} → h′ ≡ set h (m - 1) x →
+          outcomeOf Granted (boardOf l o s h′ w) ≡ step (factsIn p c t) (boardOf l o s h w) (Ask v j m)
+      sure-granted y ex eh = grant-told v j m (in-m (sure-range .lowM) (sure-range .highM)) (may-in p c t (boardOf l o s h w) v j m ∙ sym a ∙ y) ex eh ∙ sure-asked
+
+      pub sure-waits : may ≡ false → {w′ : List ℕ} → w′ ≡ set w (seat v j - 1) m →
+          outcomeOf Waits (boardOf l o s h w′) ≡ step (factsIn p c t) (boardOf l o s h w) (Ask v j m)
+      sure-waits y ew = wait-told v j m (may-in p c t (boardOf l o s h w) v j m ∙ sym a ∙ y) ew ∙ sure-asked
 
   -- `free v j m` of a global mutex, and of a local one: x is who gets it
   pub global-told : (v m : ℕ) → InV v → InM m → OwnHeld (boardOf l o s h w) v m → (x : Next) → x ≡ nextGlobal (boardOf l o s h w) m →

@@ -6,20 +6,20 @@ use plan::OverrunChoice;
 use plan::Policy;
 use plan::Refusal;
 ghost use mathlib.Core.Path.{_≡_};
-ghost use mathlib.Core.Bool.{Bool, false};
+ghost use mathlib.Core.Bool.{Bool, true, false};
 ghost use mathlib.Core.List.{List};
-ghost use Prim.Native.Nat.{ℕ, _-_, _≤_};
-ghost use lib.ListN.{length, set};
+ghost use Prim.Native.Nat.{ℕ, _-_, _<_, _≤_};
+ghost use lib.ListN.{length, getD, set};
 ghost use Rattle.plan.specs.declared.Policy.{Policy};
 ghost use Rattle.plan.specs.declared.OverrunChoice.{OverrunChoice};
-ghost use Rattle.board_seats.specs.Seats.{seat, isGlobal};
+ghost use Rattle.board_seats.specs.Seats.{seat, hasVcpu, isGlobal};
 ghost use Rattle.board_supply.specs.Supplies.{nextMark};
 ghost use Rattle.board_turns.specs.Turns.{waiterV};
 ghost use Rattle.board_rules.specs.View.{factsIn};
 ghost use Rattle.board_rules.specs.Settle.{Marked};
 ghost use Rattle.board_rules.specs.SettleEvents.{OwnHeld};
 ghost use Rattle.board_rules.specs.Lent.{boardOf, outcomeOf};
-ghost use Rattle.board_rules.specs.Board.{refused, used, topped, step, asked, handedTo, grantedLocal, nextOf, freed, freedGlobal, freedLocal, fresh, good};
+ghost use Rattle.board_rules.specs.Board.{refused, used, topped, step, askFault, mayHave, handedTo, grantedLocal, nextOf, freed, freedGlobal, freedLocal, fresh, good};
 
 // Per VCPU v, at place v - 1: budget left, overrun left, the stopped mark. Per mutex m, at place m - 1: the seat of its holder, 0 where it is free.
 // Per seat, at place seat - 1: the mutex that the task waits for, 0 for none. The seat of task (v, n) is (v - 1) * 8 + n.
@@ -133,19 +133,6 @@ fn put_wait(waits: &mut [u8], v: u64, n: u64, w: u64)
 {
     let i = sub(board_seats::seat(v, n), 1) as usize;
     waits[i] = w as u8;
-}
-
-// m goes to task (v, n) where it may have it, else the task waits.
-fn asked(view: &[u64], holder: &mut [u16], waits: &mut [u8], v: u64, n: u64, m: u64) -> BoardAnswer
-    requires { ⌜ (v ≤ 16) × (n ≤ 8) × (1 ≤ m) × (m ≤ 32) × (length (now waits) ≡ 128) ⌝ }
-    ensures { λ r. ⌜ ((p : Policy) (c : OverrunChoice) (ls : List ℕ) (os : List ℕ) (ss : List Bool) → length ss ≡ 16 → Marked (factsIn p c (now (view .entry))) (boardOf ls os ss (now (holder .entry)) (now (waits .entry))) → outcomeOf r (boardOf ls os ss (now (holder .exit)) (now (waits .exit))) ≡ asked (factsIn p c (now (view .entry))) (boardOf ls os ss (now (holder .entry)) (now (waits .entry))) v n m) ⌝ }
-{
-    if board_turns::may_have(view, holder, v, n, m) {
-        put_holder(holder, m, board_seats::seat(v, n));
-        return BoardAnswer::Granted;
-    }
-    put_wait(waits, v, n, m);
-    BoardAnswer::Waits
 }
 
 // The task (v, n), or nobody where n is 0.
@@ -300,6 +287,33 @@ impl Board {
         topped(view, left, over, stopped, v)
     }
 
+    // `ask v n m` on lent arrays, of an ask that has no fault: m goes to task (v, n) where it may have it, else the task waits.
+    pub fn ask_sure(
+        policy: Policy,
+        choice: OverrunChoice,
+        view: &[u64],
+        left: &[u64],
+        over: &[u64],
+        stopped: &[bool],
+        holder: &mut [u16],
+        waits: &mut [u8],
+        v: u64,
+        n: u64,
+        m: u64,
+        may: bool,
+    ) -> BoardAnswer
+        requires { ⌜ (length (now stopped) ≡ 16) × (length (now waits) ≡ 128) × Marked (factsIn policy choice (now view)) (boardOf (now left) (now over) (now stopped) (now holder) (now waits)) ⌝ }
+        requires { ⌜ (askFault (factsIn policy choice (now view)) (boardOf (now left) (now over) (now stopped) (now holder) (now waits)) v n m ≡ Fault.Clear) × (may ≡ mayHave (factsIn policy choice (now view)) (boardOf (now left) (now over) (now stopped) (now holder) (now waits)) v n m) ⌝ }
+        ensures { λ r. ⌜ outcomeOf r (boardOf (now (left .entry)) (now (over .entry)) (now (stopped .entry)) (now (holder .exit)) (now (waits .exit))) ≡ step (factsIn policy choice (now (view .entry))) (boardOf (now (left .entry)) (now (over .entry)) (now (stopped .entry)) (now (holder .entry)) (now (waits .entry))) (Event.Ask v n m) ⌝ }
+    {
+        if may {
+            put_holder(holder, m, board_seats::seat(v, n));
+            return BoardAnswer::Granted;
+        }
+        put_wait(waits, v, n, m);
+        BoardAnswer::Waits
+    }
+
     // `ask v n m` on lent arrays: no mark changes, where none is due and lacking.
     pub fn ask_in(
         policy: Policy,
@@ -330,7 +344,23 @@ impl Board {
             m,
         );
         match fault {
-            Fault::Clear => asked(view, holder, waits, v, n, m),
+            Fault::Clear => {
+                let may = board_turns::may_have(view, holder, v, n, m);
+                Board::ask_sure(
+                    policy,
+                    choice,
+                    view,
+                    left,
+                    over,
+                    stopped,
+                    holder,
+                    waits,
+                    v,
+                    n,
+                    m,
+                    may,
+                )
+            }
             Fault::Bad(k) => BoardAnswer::Refused(k),
         }
     }
@@ -356,6 +386,27 @@ impl Board {
             Fault::Clear => freed(policy, view, left, stopped, holder, waits, v, m),
             Fault::Bad(k) => BoardAnswer::Refused(k),
         }
+    }
+
+    // `use v 1` on lent arrays, where more than one tick is left of the budget of v: no mark changes then.
+    pub fn use_within(
+        policy: Policy,
+        choice: OverrunChoice,
+        view: &[u64],
+        left: &mut [u64],
+        over: &[u64],
+        stopped: &[bool],
+        holder: &[u16],
+        v: u64,
+    ) -> BoardAnswer
+        requires { ⌜ (length (now left) ≡ 16) × (length (now over) ≡ 16) × (length (now stopped) ≡ 16) × ((ws : List ℕ) → Marked (factsIn policy choice (now view)) (boardOf (now left) (now over) (now stopped) (now holder) ws)) × (hasVcpu (now view) v ≡ true) × (1 < getD (now left) (v - 1) 0) ⌝ }
+        ensures { λ r. ⌜ ((ws : List ℕ) → outcomeOf r (boardOf (now (left .exit)) (now (over .entry)) (now (stopped .entry)) (now (holder .entry)) ws) ≡ step (factsIn policy choice (now (view .entry))) (boardOf (now (left .entry)) (now (over .entry)) (now (stopped .entry)) (now (holder .entry)) ws) (Event.Use v 1)) ⌝ }
+    {
+        let i = sub(v, 1) as usize;
+        let b = left[i] - 1;
+        let o = over[i];
+        left[i] = b;
+        BoardAnswer::Left { b, o }
     }
 }
 

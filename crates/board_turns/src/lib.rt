@@ -64,6 +64,9 @@ pub fn next_local(view: &[u64], holder: &[u16], waits: &[u8], v: u64) -> u64
     ensures { λ r. ⌜ (r ≡ localNextAt (now (view .entry)) (now (holder .entry)) (now (waits .entry)) v) × (r ≤ 8) ⌝ }
 {
     let n = board_walks::local_under(view, waits, v, 8);
+    if n == 0 {
+        return 0;
+    }
     if board_walks::passes(view, holder, v, n) {
         return n;
     }

@@ -34,7 +34,8 @@ use Rattle.board_rules.specs.declared.BoardAnswer.{BoardAnswer}
 use Rattle.board_rules.specs.Events.{boardText}
 use Rattle.board_tables.specs.declared.FreshBoard.{FreshBoard}
 use Rattle.board_tables.specs.Entered.{freshFor, stepFor}
-use Rattle.exports_codes.specs.Exported.{exported}
+use Rattle.desk.specs.Ran.{runInto}
+use Rattle.exports_codes.specs.Exported.{exported, runExported, missedLeft}
 use Rattle.text_scan.proofs as text_scan
 use Rattle.given_test.proofs as given_test
 use Rattle.read_lines.proofs as read_lines
@@ -46,6 +47,7 @@ use Rattle.records_ask.proofs as records_ask
 use Rattle.records_board.proofs as records_board
 use Rattle.board_tables.proofs as board_tables
 use Rattle.log_answers.proofs as log_answers
+use Rattle.clock_tables.proofs as clock_tables
 use Rattle.desk.proofs as desk
 use Rattle.exports.proofs as exports
 
@@ -164,6 +166,15 @@ module _ {M : Type 1} (𝓤 : URA M) (H : Heap 𝓤) (A : Atoms 𝓤) (mem : Mem
   pub ryefrost-board-stated : exports.ryefrost_board.spec 𝓤 H A mem run ≡ closing 𝓤 H A exports.ryefrost_board.ended (exports.ryefrost_board.clauses 𝓤 H A mem run)
   ryefrost-board-stated = refl
 
+  pub ryefrost-run-is :
+      (κs : Lfts 2) (s : RefT (List ℕ)) (h : ℕ) (o : RefT (List ℕ)) (z : ℤ) (e : AtExit exports.ryefrost_run.ended κs) →
+      exports.ryefrost_run.clauses 𝓤 H A mem run κs (s, (h, (o, tt))) .ensures tt z e
+      ≡ sep 𝓤 (fact 𝓤 (z ≡ runExported (runInto (now s) h (now o)))) (fact 𝓤 (now (e .1 .1 .0) ≡ missedLeft (runInto (now s) h (now o)) (now o)))
+  ryefrost-run-is κs s h o z e = refl
+
+  pub ryefrost-run-stated : exports.ryefrost_run.spec 𝓤 H A mem run ≡ closing 𝓤 H A exports.ryefrost_run.ended (exports.ryefrost_run.clauses 𝓤 H A mem run)
+  ryefrost-run-stated = refl
+
   -- THE OTHER FUNCTIONS OF ONCE: their clauses, too, are what their theorems state
   pub read-plan-stated : read_plan.read_plan.spec 𝓤 H A mem run ≡ closing 𝓤 H A read_plan.read_plan.ended (read_plan.read_plan.clauses 𝓤 H A mem run)
   read-plan-stated = refl
@@ -212,6 +223,12 @@ module _ {M : Type 1} (𝓤 : URA M) (H : Heap 𝓤) (A : Atoms 𝓤) (mem : Mem
 
   pub answers-stated : log_answers.answers.spec 𝓤 H A mem run ≡ closing 𝓤 H A log_answers.answers.ended (log_answers.answers.clauses 𝓤 H A mem run)
   answers-stated = refl
+
+  pub run-of-stated : clock_tables.run_of.spec 𝓤 H A mem run ≡ closing 𝓤 H A clock_tables.run_of.ended (clock_tables.run_of.clauses 𝓤 H A mem run)
+  run-of-stated = refl
+
+  pub run-bytes-stated : desk.run_bytes.spec 𝓤 H A mem run ≡ closing 𝓤 H A desk.run_bytes.ended (desk.run_bytes.clauses 𝓤 H A mem run)
+  run-bytes-stated = refl
 
   pub verdict-text-stated : desk.verdict_text.spec 𝓤 H A mem run ≡ closing 𝓤 H A desk.verdict_text.ended (desk.verdict_text.clauses 𝓤 H A mem run)
   verdict-text-stated = refl

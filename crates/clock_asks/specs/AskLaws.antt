@@ -4,6 +4,7 @@ use mathlib.Core.Path.{_≡_, refl, sym, ap, subst, _∙_}
 use mathlib.Core.List.{List}
 use mathlib.Core.Bool.{Bool, true, false, false≢true}
 use native.Mathlib.Omega.{arith}
+use lib.Dec.{eqb}
 use Rattle.laws.specs.Choice.{if_then_else_}
 use Rattle.laws.specs.BoolLaws.{clash}
 use Rattle.plan.specs.declared.Policy.{Policy}
@@ -20,11 +21,12 @@ use Rattle.board_rules.specs.declared.Next.the-variants.{Nobody, To}
 use Rattle.board_rules.specs.declared.BoardAnswer.{BoardAnswer}
 use Rattle.board_rules.specs.declared.BoardAnswer.the-variants.{Granted, Waits, Freed, Left, Shows, Refused}
 use Rattle.board_rules.specs.declared.Outcome.{Outcome}
-use Rattle.board_rules.specs.Board.{withHolder, withWait, complete, mayHave, asked, answered, askFault, step}
+use Rattle.board_rules.specs.Board.{holderOf, withHolder, withWait, complete, mayHave, asked, answered, askFault, step}
 use Rattle.board_rules.specs.Events.{boardBy}
 use Rattle.board_rules.specs.Lent.{outcomeOf}
 use Rattle.board_keeps.specs.Fair.{InV, InN}
 use Rattle.board_keeps.specs.Good.{good-marked}
+use Rattle.board_keeps.specs.Faults.{ask-clear}
 use Rattle.clock_rules.specs.Clock.{bySeat, isWait, noAsk, after}
 use Rattle.clock_rules.specs.Trace.{eventLine}
 use Rattle.clock_times.specs.Times.{timingIn}
@@ -39,6 +41,7 @@ use Rattle.clock_mirrors.specs.Writes.{seat-list}
 use Rattle.clock_mirrors.specs.Asks.{PutWhere, wait-mirrors, grant-mirrors}
 use Rattle.clock_lines.specs.Told.{toldAt, toldTo, RoomAt}
 use Rattle.clock_going.specs.Going.{timingBy, Going}
+use Rattle.clock_asks.specs.Passing.{mayBy, passes-kept}
 use Rattle.clock_asks.specs.Asked.{Asker, Took, took-global, took-local, Kept, kept-waits, kept-took, MayAsk, AskKept, AskMade}
 
 -- WHAT AN ANSWER IS
@@ -63,6 +66,15 @@ grant-answer F b v n m = at (askFault F b v n m) (mayHave F b v n m) (complete F
     at Clear true o e u f g h = e
     at Clear false o e u f g h = absurd (clash (ap isWait f) h)
 
+-- an ask that is not refused has no fault
+accepted-clear : (F : Facts) (b : Board) (v n m : ℕ) → isRefusal (step F b (Ask v n m) .answer) ≡ false → askFault F b v n m ≡ Clear
+unfolding step
+accepted-clear F b v n m = at (askFault F b v n m)
+  where
+    at : (r : Fault) → isRefusal (answered b r (asked F b v n m) .answer) ≡ false → r ≡ Clear
+    at Clear e = refl
+    at (Bad r) e = absurd (false≢true (sym e))
+
 -- WHAT IS KEPT leaves the ticks done
 
 -- what has the same number at each seat
@@ -84,17 +96,6 @@ module _ {v n : ℕ} (i : InV v) (j : InN n) where
 -- AN ASK THAT IS DUE
 module _ {p : Policy} {c : OverrunChoice} {t x ls os : List ℕ} {ss : List Bool} {hs ws k : List ℕ} (g : Going p c t x ls os ss hs ws k) {v n m : ℕ}
     (a : Asker (timingBy p c t x) (boardOf ls os ss hs ws) (doneIn k) v n m) where
-  -- the task may ask
-  pub may-ask : MayAsk p c t ls os ss hs ws k v n
-  unfolding timingIn
-  may-ask = record {
-    shaped = g .running .shaped;
-    marked = good-marked (factsIn p c t) (boardOf ls os ss hs ws) (g .running .is-good);
-    sized = g .mirrors .sized;
-    v-in = a .chosen .v-in;
-    n-in = a .chosen .n-in;
-  }
-
   -- the ask is taken
   record Taken : Type 0 where
     accepted : isRefusal (step (timingBy p c t x .facts) (boardOf ls os ss hs ws) (Ask v n m) .answer) ≡ false
@@ -110,6 +111,30 @@ module _ {p : Policy} {c : OverrunChoice} {t x ls os : List ℕ} {ss : List Bool
       at : (w : Bool) → isWait (step (timingBy p c t x .facts) (boardOf ls os ss hs ws) (Ask v n m) .answer) ≡ w → Taken
       at true w = taken-as {y = Nobody} (asks-taken (g .paced) (a .core) (doneIn k) (g .running) (has-waited v n m (a .is-picked) (a .chosen) (a .is-due) (a .some) w spent))
       at false w = taken-as {y = To v n} (asks-taken (g .paced) (a .core) (doneIn k) {k = 1} (g .running) (has-asked v n m (a .is-picked) (a .chosen) (a .is-due) (a .some) w))
+
+  -- it has no fault
+  is-clear : askFault (timingBy p c t x .facts) (boardOf ls os ss hs ws) v n m ≡ Clear
+  is-clear = accepted-clear (timingBy p c t x .facts) (boardOf ls os ss hs ws) v n m (is-taken .accepted)
+
+  -- what is kept says whether the task may have m
+  is-may : mayBy t hs k v n m ≡ mayHave (factsIn p c t) (boardOf ls os ss hs ws) v n m
+  unfolding timingIn factsIn mayHave
+  is-may =
+      ap (λ (y : Bool). if isGlobal t m then eqb (holderOf (boardOf ls os ss hs ws) m) 0 else y)
+      (passes-kept (g .mirrors) (g .paced .fair) (g .running .is-good) v n (a .chosen .v-in) (ask-clear (timingBy p c t x .facts) (boardOf ls os ss hs ws) v n m is-clear .no-hold))
+
+  -- the task may ask
+  pub may-ask : MayAsk p c t ls os ss hs ws k v n m
+  unfolding timingIn
+  may-ask = record {
+    shaped = g .running .shaped;
+    marked = good-marked (factsIn p c t) (boardOf ls os ss hs ws) (g .running .is-good);
+    sized = g .mirrors .sized;
+    v-in = a .chosen .v-in;
+    n-in = a .chosen .n-in;
+    no-fault = is-clear;
+    may = is-may;
+  }
 
   -- what is kept is so
   took-mirrors : {k′ : List ℕ} {y : Bool} → timingBy p c t x .facts .global m ≡ y → isWait (step (timingBy p c t x .facts) (boardOf ls os ss hs ws) (Ask v n m) .answer) ≡ false → Took k k′ v n m y →

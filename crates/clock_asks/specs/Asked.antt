@@ -6,12 +6,13 @@ use mathlib.Core.List.{List}
 use mathlib.Core.Bool.{Bool, true, false}
 use Rattle.plan.specs.declared.Policy.{Policy}
 use Rattle.plan.specs.declared.OverrunChoice.{OverrunChoice}
+use Rattle.plan.specs.declared.Fault.the-variants.{Clear}
 use Rattle.board_seats.specs.Seats.{isGlobal}
 use Rattle.board_rules.specs.View.{factsIn}
 use Rattle.board_rules.specs.declared.Board.{Board}
 use Rattle.board_rules.specs.declared.Event.the-variants.{Ask}
 use Rattle.board_rules.specs.declared.Next.the-variants.{To}
-use Rattle.board_rules.specs.Board.{nextOf, step}
+use Rattle.board_rules.specs.Board.{nextOf, askFault, mayHave, step}
 use Rattle.board_rules.specs.Settle.{Marked}
 use Rattle.board_keeps.specs.Fair.{InV, InN}
 use Rattle.board_keeps.specs.Shaped.{Shaped}
@@ -23,6 +24,7 @@ use Rattle.clock_steps.specs.Picked.{Chosen}
 use Rattle.clock_lines.specs.Told.{toldAt, toldTo}
 use Rattle.clock_going.specs.Going.{timingBy, Going, Made}
 use Rattle.clock_asks.specs.AskCases.{dueTo}
+use Rattle.clock_asks.specs.Passing.{mayBy}
 
 -- A PICK: core c picks (v, n), nobody where v is 0, and (v, n) is to ask for m, for nothing where m is 0
 pub record PickIs (T : Timing) (c : ℕ) (b : Board) (d : List ℕ) (v n m : ℕ) : Type 0 where
@@ -51,13 +53,15 @@ pub data Kept (k k′ : List ℕ) (v n m : ℕ) (g : Bool) : Bool → Type 0 whe
   kept-waits : PutReady k k′ v n false → Kept k k′ v n m g true
   kept-took : Took k k′ v n m g → Kept k k′ v n m g false
 
--- A TASK ASKS on a board that has its places and its marks
-pub record MayAsk (p : Policy) (c : OverrunChoice) (t ls os : List ℕ) (ss : List Bool) (hs ws k : List ℕ) (v n : ℕ) : Type 0 where
+-- A TASK ASKS for m on a board that has its places and its marks: the ask has no fault, and what is kept says whether it may have m
+pub record MayAsk (p : Policy) (c : OverrunChoice) (t ls os : List ℕ) (ss : List Bool) (hs ws k : List ℕ) (v n m : ℕ) : Type 0 where
   pub shaped : Shaped (boardOf ls os ss hs ws)
   pub marked : Marked (factsIn p c t) (boardOf ls os ss hs ws)
   pub sized : Sized k
   pub v-in : InV v
   pub n-in : InN n
+  pub no-fault : askFault (factsIn p c t) (boardOf ls os ss hs ws) v n m ≡ Clear
+  pub may : mayBy t hs k v n m ≡ mayHave (factsIn p c t) (boardOf ls os ss hs ws) v n m
 
 -- the ask is made, told at tick i, and kept
 pub record AskKept (p : Policy) (c : OverrunChoice) (t ls os : List ℕ) (ss : List Bool) (on : Bool) (i v n m : ℕ) (hs ws k o : List ℕ) (at : ℕ) (hs′ ws′ k′ o′ : List ℕ) (waits : Bool) (at′ : ℕ) : Type 0 where

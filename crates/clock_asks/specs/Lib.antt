@@ -1,4 +1,5 @@
 pub mod AskCases
+pub mod Passing
 pub mod Coming
 pub mod Asked
 pub mod Chosen

@@ -1,5 +1,5 @@
 -- What the clock keeps beside the board's arrays, in one list of numbers k: sets of VCPUs and of tasks, so that a pick walks over nobody, what each task
--- holds, the ticks that each job has done, how many of its sections have ended, and when each VCPU and task recurs next.
+-- holds, the ticks that each job has done, and how many of its sections have ended.
 use Prim.Native.Nat.{ℕ, _+_, _-_, _*_, _<_, _≤_}
 use mathlib.Core.Path.{_≡_}
 use mathlib.Core.List.{List}
@@ -51,13 +51,9 @@ atDone = atHeld + maxV * mostN
 abbrev pub atPlace : ℕ
 atPlace = atDone + maxV * mostN
 
--- by place in the times, from the first period of a VCPU on: the next tick at which it recurs
-abbrev pub atNext : ℕ
-atNext = atPlace + maxV * mostN + 1
-
 -- by core, from 0: the set of its VCPUs
 abbrev pub atCores : ℕ
-atCores = atNext + maxV + maxV * mostN
+atCores = atPlace + maxV * mostN + 1
 
 abbrev pub marksLength : ℕ
 marksLength = atCores + maxCore + 1

@@ -1,5 +1,6 @@
 pub mod Nexts
 pub mod LeastLaws
 pub mod WriteLaws
+pub mod PartLaws
 pub mod ScanLaws
 pub mod DueLaws

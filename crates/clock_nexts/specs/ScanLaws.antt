@@ -1,14 +1,13 @@
 -- Laws of the loops that look for the first miss and for the least next.
 use Prim.Native.Nat.{ℕ, _+_, _<_, _≤_}
 use mathlib.Core.Path.{_≡_, refl, sym, subst, _∙_}
-use mathlib.Core.Bool.{Bool, true, false, _&&_}
-use mathlib.Core.List.{List}
-use mathlib.Core.Logic.{_⊎_, inl, inr, ⊎-elim}
+use mathlib.Core.Bool.{Bool, true, false}
+use mathlib.Core.Logic.{⊎-elim}
 use native.Mathlib.Nat.{le-antisymm, eq-zero-or-pos}
 use native.Mathlib.Omega.{arith}
 use native.Mathlib.Decide.{decLe}
 use borrow.Author.Count.{below-more}
-use borrow.Author.Tests.{ltb-true, ltb-false}
+use borrow.Author.Tests.{ltb-true, ltb-false, lt-ltb, le-ltb}
 use lib.Dec.{ltb}
 use Rattle.laws.specs.Choice.{if_then_else_}
 use Rattle.laws.specs.Range.{anyTo}
@@ -16,7 +15,7 @@ use Rattle.laws.specs.RangeLaws.{any-none, any-more, any-hit, none-at}
 use Rattle.laws.specs.BoolLaws.{clash}
 use Rattle.laws_picks.specs.Picks.{lowest}
 use Rattle.laws_picks.specs.PickLaws.{lowest-passes, lowest-least, lowest-zero}
-use Rattle.clock_nexts.specs.Nexts.{places, periodAt, nextAt, never, sooner, NextOf, Soonest}
+use Rattle.clock_nexts.specs.Nexts.{never, sooner, Soonest}
 
 -- FROM THE LOWEST UP: none of 1 to i, of 1 to n, passes
 pub record Rising (n : ℕ) (f : ℕ → Bool) (i : ℕ) : Type 0 where
@@ -46,45 +45,43 @@ module _ {n : ℕ} {f : ℕ → Bool} where
   pub rising-all : {i : ℕ} → Rising n f i → n ≤ i → 0 ≡ lowest n f
   rising-all h l = sym (lowest-zero n f .0 (subst (λ i. anyTo i f ≡ false) (le-antisymm (h .within) l) (h .none)))
 
--- THE LEAST NEXT, by the test of one
-pub sooner-it : {b : Bool} (p y r : ℕ) → b ≡ (ltb 0 p && ltb y r) → b ≡ true → y ≡ sooner p y r
-sooner-it p y r e q = rw (sym e ∙ q)
+-- THE SOONER of two
+pub sooner-it : (a b : ℕ) → a < b → a ≡ sooner a b
+sooner-it a b l = rw (lt-ltb a b l)
 
-pub sooner-not : {b : Bool} (p y r : ℕ) → b ≡ (ltb 0 p && ltb y r) → b ≡ false → r ≡ sooner p y r
-sooner-not p y r e q = rw (sym e ∙ q)
+pub sooner-not : (a b : ℕ) → b ≤ a → b ≡ sooner a b
+sooner-not a b l = rw (le-ltb a b l)
 
-module _ {x k : List ℕ} where
-  pub soonest-none : Soonest x k 0 never
-  soonest-none = record { within = omega arith; least = λ j l. absurd (omega arith); one = inl refl }
+-- THE LEAST
+module _ {f : ℕ → ℕ} {a : ℕ} where
+  pub soonest-none : Soonest f a a never
+  soonest-none = record { least = λ j l m. absurd (omega arith); most = λ b l h. l }
 
-  wider : {n y : ℕ} → (y ≡ never) ⊎ NextOf x k n y → (y ≡ never) ⊎ NextOf x k (n + 1) y
-  wider (inl e) = inl e
-  wider (inr o) = inr (record { at = o .at; within = let w = o .within in omega arith; some = o .some; is = o .is })
-
-  -- the next of place n, of period p, is not sooner
-  pub soonest-leave : {n y : ℕ} → Soonest x k n y → n < places → (0 < periodAt x n → y ≤ nextAt k n) → Soonest x k (n + 1) y
-  soonest-leave {n} {y} h l m = record {
-    within = omega arith;
-    least = below-more (λ j. 0 < periodAt x j → y ≤ nextAt k j) n (h .least) m;
-    one = wider (h .one);
-  }
-
-  -- it is sooner
-  pub soonest-take : {n y : ℕ} → Soonest x k n y → n < places → 0 < periodAt x n → nextAt k n < y → Soonest x k (n + 1) (nextAt k n)
-  soonest-take {n} {y} h l g m = record {
-    within = omega arith;
-    least = below-more (λ j. 0 < periodAt x j → nextAt k n ≤ nextAt k j) n (λ j a b. let z = h .least j a b in omega arith) (λ a. omega arith);
-    one = inr (record { at = n; within = omega arith; some = g; is = refl });
-  }
-
-  -- the sooner of the two
-  pub soonest-more : {n y r : ℕ} → Soonest x k n y → n < places → r ≡ sooner (periodAt x n) (nextAt k n) y → Soonest x k (n + 1) r
-  soonest-more {n} {y} {r} h l e = subst (Soonest x k (n + 1)) (sym e) (go (ltb 0 (periodAt x n)) refl (ltb (nextAt k n) y) refl)
+  pub soonest-more : {i r s : ℕ} → Soonest f a i r → a ≤ i → s ≡ sooner (f i) r → Soonest f a (i + 1) s
+  soonest-more {i} {r} {s} h l e = subst (Soonest f a (i + 1)) (sym e) (go (ltb (f i) r) refl)
     where
-      go : (a : Bool) → ltb 0 (periodAt x n) ≡ a → (b : Bool) → ltb (nextAt k n) y ≡ b → Soonest x k (n + 1) (if a && b then nextAt k n else y)
-      go true p true q = soonest-take h l (ltb-true 0 (periodAt x n) p) (ltb-true (nextAt k n) y q)
-      go true p false q = soonest-leave h l (λ g. ltb-false (nextAt k n) y q)
-      go false p b q = soonest-leave h l (λ g. absurd (let z = ltb-false 0 (periodAt x n) p in omega arith))
+      -- for one more the bound holds too
+      one-more : {q : ℕ} → q ≤ r → q ≤ f i → (j : ℕ) → a ≤ j → j < i + 1 → q ≤ f j
+      one-more {q} u v j m n = below-more (λ j. a ≤ j → q ≤ f j) i (λ j n m. let z = h .least j m n in omega arith) (λ m. v) j n m
 
-  pub soonest-all : {n y : ℕ} → Soonest x k n y → places ≤ n → Soonest x k places y
-  soonest-all {n} {y} h l = subst (λ m. Soonest x k m y) (le-antisymm (h .within) l) h
+      go : (b : Bool) → ltb (f i) r ≡ b → Soonest f a (i + 1) (if b then f i else r)
+      go true q = let z = ltb-true (f i) r q in record {
+        least = one-more (omega arith) (omega arith);
+        most = λ b m g. g i l (omega arith);
+      }
+      go false q = let z = ltb-false (f i) r q in record {
+        least = one-more (omega arith) z;
+        most = λ b m g. h .most b m (λ j u v. g j u (omega arith));
+      }
+
+-- the same where the last is written otherwise
+pub soonest-to : {f : ℕ → ℕ} {a i n r : ℕ} → Soonest f a i r → i ≤ n → n ≤ i → Soonest f a n r
+soonest-to {f} {a} {r = r} h l m = subst (λ n. Soonest f a n r) (le-antisymm l m) h
+
+-- some of n passes just where the lowest is not 0
+pub some-lowest : (n : ℕ) (f : ℕ → Bool) {r : ℕ} → r ≡ lowest n f → ltb 0 r ≡ anyTo n f
+some-lowest n f {r} e = at-test (anyTo n f) refl
+  where
+    at-test : (b : Bool) → anyTo n f ≡ b → ltb 0 r ≡ b
+    at-test true q = lt-ltb 0 r (⊎-elim (λ z. absurd (clash q (lowest-zero n f .1 (sym e ∙ z)))) (λ l. l) (eq-zero-or-pos r))
+    at-test false q = let z = lowest-zero n f .0 q in le-ltb 0 r (omega arith)

@@ -1,47 +1,93 @@
-// When the VCPUs and tasks of a plan recur, by the next tick of each, kept beside the board: a tick divides nothing.
+// When the VCPUs and tasks of a plan recur, by the next tick of each, kept in a list of their own: a tick divides nothing, and one without recurrence looks at two cells.
 use board_seats::both;
 ghost use mathlib.Core.Path.{_≡_};
-ghost use mathlib.Core.List.{List};
-ghost use Prim.Native.Nat.{ℕ, _+_, _<_, _≤_};
-ghost use lib.ListN.{length};
-ghost use Rattle.laws_picks.specs.Picks.{lowest};
-ghost use Rattle.clock_nexts.specs.Nexts.{isDue, missesAt, renewed, sooner, Nexts, Periods, ElseSame, Soonest};
+ghost use Prim.Native.Nat.{_<_, _≤_};
+ghost use lib.ListN.{length, getD};
+ghost use Rattle.clock_nexts.specs.Nexts.{isDue, missesAt, missesIn, missedV, missedN, renewed, renewal, sooner, Tops, Row, Jobs, Periods, Wrote, Soonest, TopsRenewed, RowRenewed, RowsRenewed, JobsRenewed};
 
 // Does the one at place i recur at tick t?
-pub fn is_due(times: &[u64], marks: &[u64], i: u64, t: u64) -> bool
-    requires { ⌜ (length (now times) ≡ 3360) × (length (now marks) ≡ 568) × (i < 144) ⌝ }
-    ensures { λ r. ⌜ r ≡ isDue (now (times .entry)) (now (marks .entry)) t i ⌝ }
+pub fn is_due(nexts: &[u64], i: u64, t: u64) -> bool
+    requires { ⌜ (length (now nexts) ≡ 162) × (i < 144) ⌝ }
+    ensures { λ r. ⌜ r ≡ isDue (now (nexts .entry)) t i ⌝ }
 {
-    let a = i as usize;
-    both(0 < times[16 + a], marks[420 + a] == t)
+    nexts[i as usize] == t
 }
 
-// Is the job of seat s released at tick t, with the one before it unfinished?
-fn misses(times: &[u64], marks: &[u64], t: u64, s: u64) -> bool
-    requires { ⌜ (length (now times) ≡ 3360) × (length (now marks) ≡ 568) × (0 < s) × (s ≤ 128) ⌝ }
-    ensures { λ r. ⌜ r ≡ missesAt (now (times .entry)) (now (marks .entry)) t s ⌝ }
+// Is the job of (v, n) released at tick t, with the one before it unfinished?
+fn misses(times: &[u64], marks: &[u64], nexts: &[u64], v: u64, n: u64, t: u64) -> bool
+    requires { ⌜ (length (now times) ≡ 3360) × (length (now marks) ≡ 424) × (length (now nexts) ≡ 162) × (0 < v) × (v ≤ 16) × (0 < n) × (n ≤ 8) ⌝ }
+    ensures { λ r. ⌜ r ≡ missesAt (now (times .entry)) (now (marks .entry)) (now (nexts .entry)) t v n ⌝ }
 {
-    let a = s as usize;
+    let s = board_seats::seat(v, n);
     both(
-        is_due(times, marks, 15 + s, t),
-        marks[163 + a] < times[159 + a],
+        is_due(nexts, 15 + s, t),
+        board_seats::at(marks, 163 + s) < board_seats::at(times, 159 + s),
     )
 }
 
-// The lowest seat whose job is unfinished when its next is released at tick t, 0 for none.
-pub fn missed_at(times: &[u64], marks: &[u64], t: u64) -> u64
-    requires { ⌜ (length (now times) ≡ 3360) × (length (now marks) ≡ 568) ⌝ }
-    ensures { λ r. ⌜ (r ≡ lowest 128 (missesAt (now (times .entry)) (now (marks .entry)) t)) × (r ≤ 128) ⌝ }
+// The first task of v whose job is unfinished when its next is released at tick t, 0 for none.
+pub fn missed_n(times: &[u64], marks: &[u64], nexts: &[u64], v: u64, t: u64) -> u64
+    requires { ⌜ (length (now times) ≡ 3360) × (length (now marks) ≡ 424) × (length (now nexts) ≡ 162) × (0 < v) × (v ≤ 16) ⌝ }
+    ensures { λ r. ⌜ (r ≡ missedN (now (times .entry)) (now (marks .entry)) (now (nexts .entry)) t v) × (r ≤ 8) ⌝ }
 {
     let mut i = 0;
-    while i < 128 {
-        let s = i + 1;
-        if misses(times, marks, t, s) {
-            return s;
+    while i < 8 {
+        let n = i + 1;
+        if misses(times, marks, nexts, v, n, t) {
+            return n;
         }
         i += 1;
     }
     0
+}
+
+// Has v such a task? Only where its row is due are its tasks looked at.
+fn misses_in(times: &[u64], marks: &[u64], nexts: &[u64], v: u64, t: u64) -> bool
+    requires { ⌜ (length (now times) ≡ 3360) × (length (now marks) ≡ 424) × (length (now nexts) ≡ 162) × (0 < v) × (v ≤ 16) × Row (now times) (now nexts) t v ⌝ }
+    ensures { λ r. ⌜ r ≡ missesIn (now (times .entry)) (now (marks .entry)) (now (nexts .entry)) t v ⌝ }
+{
+    let a = v as usize;
+    if nexts[143 + a] == t {
+        return 0 < missed_n(times, marks, nexts, v, t);
+    }
+    false
+}
+
+// The first VCPU with such a task, 0 for none.
+pub fn missed_v(times: &[u64], marks: &[u64], nexts: &[u64], t: u64) -> u64
+    requires { ⌜ (length (now times) ≡ 3360) × (length (now marks) ≡ 424) × (length (now nexts) ≡ 162) × Jobs (now times) (now nexts) t ⌝ }
+    ensures { λ r. ⌜ (r ≡ missedV (now (times .entry)) (now (marks .entry)) (now (nexts .entry)) t) × (r ≤ 16) ⌝ }
+{
+    let mut i = 0;
+    while i < 16 {
+        let v = i + 1;
+        if misses_in(times, marks, nexts, v, t) {
+            return v;
+        }
+        i += 1;
+    }
+    0
+}
+
+// The sooner of two ticks.
+fn sooner(a: u64, b: u64) -> u64
+    ensures { λ r. ⌜ r ≡ sooner a b ⌝ }
+{
+    if a < b { a } else { b }
+}
+
+// The least of the cells from a to before e.
+fn soonest(nexts: &[u64], a: usize, e: usize) -> u64
+    requires { ⌜ (length (now nexts) ≡ 162) × (a ≤ e) × (e ≤ 162) ⌝ }
+    ensures { λ r. ⌜ Soonest (λ j. getD (now (nexts .entry)) j 0) a e r ⌝ }
+{
+    let mut r = 3000000;
+    let mut i = a;
+    while i < e {
+        r = sooner(nexts[i], r);
+        i += 1;
+    }
+    r
 }
 
 // The next, when tick t is over, of one with period p whose next was y.
@@ -52,36 +98,61 @@ fn renewed(p: u64, y: u64, t: u64) -> u64
     if y == t { t + p } else { y }
 }
 
-// Writes when each recurs next, when tick t is over.
-pub fn renew(times: &[u64], marks: &mut [u64], t: u64)
-    requires { ⌜ Periods (now times) × (length (now marks) ≡ 568) × Nexts (now times) (now marks) t × (t ≤ 1000000) ⌝ }
-    ensures { λ out. ⌜ Nexts (now (times .entry)) (now (marks .exit)) (t + 1) × ElseSame (now (marks .entry)) (now (marks .exit)) ⌝ }
-{
-    let mut i = 0;
-    while i < 144 {
-        let y = renewed(times[16 + i], marks[420 + i], t);
-        marks[420 + i] = y;
-        i += 1;
-    }
-}
-
-// The sooner of r and the next y of one with period p.
-fn sooner(p: u64, y: u64, r: u64) -> u64
-    ensures { λ out. ⌜ out ≡ sooner p y r ⌝ }
-{
-    if both(0 < p, y < r) { y } else { r }
-}
-
-// The least next of all, 3000000 where none recurs.
-pub fn soonest(times: &[u64], marks: &[u64]) -> u64
-    requires { ⌜ (length (now times) ≡ 3360) × (length (now marks) ≡ 568) ⌝ }
-    ensures { λ r. ⌜ Soonest (now (times .entry)) (now (marks .entry)) 144 r ⌝ }
+// Writes when those at the places from a to before e recur next, when tick t is over, and returns the least of these ticks.
+fn renew(times: &[u64], nexts: &mut [u64], a: usize, e: usize, t: u64) -> u64
+    requires { ⌜ Periods (now times) × (length (now nexts) ≡ 162) × (a ≤ e) × (e ≤ 144) × (t ≤ 1000000) ⌝ }
+    ensures { λ r. ⌜ Wrote (renewal (now (times .entry)) (now (nexts .entry)) t) (now (nexts .entry)) (now (nexts .exit)) a e × Soonest (renewal (now (times .entry)) (now (nexts .entry)) t) a e r ⌝ }
 {
     let mut r = 3000000;
-    let mut i = 0;
-    while i < 144 {
-        r = sooner(times[16 + i], marks[420 + i], r);
+    let mut i = a;
+    while i < e {
+        let y = renewed(times[16 + i], nexts[i], t);
+        nexts[i] = y;
+        r = sooner(y, r);
         i += 1;
     }
     r
+}
+
+// Writes the next tops, when those of tick t are made.
+pub fn renew_tops(times: &[u64], nexts: &mut [u64], t: u64)
+    requires { ⌜ Periods (now times) × (length (now nexts) ≡ 162) × Tops (now times) (now nexts) t × (t ≤ 1000000) ⌝ }
+    ensures { λ out. ⌜ TopsRenewed (now (times .entry)) (now (nexts .entry)) (now (nexts .exit)) t ⌝ }
+{
+    let r = renew(times, nexts, 0, 16, t);
+    nexts[160] = r;
+}
+
+// Writes the next releases of v's tasks, when those of tick t are made.
+fn renew_row(times: &[u64], nexts: &mut [u64], v: usize, t: u64)
+    requires { ⌜ Periods (now times) × (length (now nexts) ≡ 162) × (0 < v) × (v ≤ 16) × Row (now times) (now nexts) t v × (t ≤ 1000000) ⌝ }
+    ensures { λ out. ⌜ RowRenewed (now (times .entry)) (now (nexts .entry)) (now (nexts .exit)) t v ⌝ }
+{
+    let a = 8 + v * 8;
+    let r = renew(times, nexts, a, a + 8, t);
+    nexts[143 + v] = r;
+}
+
+// The same for each row that is due.
+fn renew_rows(times: &[u64], nexts: &mut [u64], t: u64)
+    requires { ⌜ Periods (now times) × (length (now nexts) ≡ 162) × Jobs (now times) (now nexts) t × (t ≤ 1000000) ⌝ }
+    ensures { λ out. ⌜ RowsRenewed (now (times .entry)) (now (nexts .entry)) (now (nexts .exit)) t 16 ⌝ }
+{
+    let mut i = 0;
+    while i < 16 {
+        if nexts[144 + i] == t {
+            renew_row(times, nexts, i + 1, t);
+        }
+        i += 1;
+    }
+}
+
+// Writes the next releases, when those of tick t are made.
+pub fn renew_jobs(times: &[u64], nexts: &mut [u64], t: u64)
+    requires { ⌜ Periods (now times) × (length (now nexts) ≡ 162) × Jobs (now times) (now nexts) t × (t ≤ 1000000) ⌝ }
+    ensures { λ out. ⌜ JobsRenewed (now (times .entry)) (now (nexts .entry)) (now (nexts .exit)) t ⌝ }
+{
+    renew_rows(times, nexts, t);
+    let r = soonest(nexts, 144, 160);
+    nexts[161] = r;
 }

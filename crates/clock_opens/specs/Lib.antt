@@ -1,5 +1,4 @@
 pub mod Opens
-pub mod KeepLaws
 pub mod TopLaws
 pub mod ReleaseLaws
 pub mod OpenLaws

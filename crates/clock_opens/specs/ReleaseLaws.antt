@@ -1,45 +1,29 @@
 -- Laws of the loop over the releases of a tick.
-use Prim.Native.Nat.{ℕ, _+_, _-_, _*_, _/_, _%_, _<_, _≤_}
-use mathlib.Core.Path.{_≡_, refl, sym, ap, subst, _∙_}
+use Prim.Native.Nat.{ℕ, _+_, _-_, _*_, _<_, _≤_}
+use mathlib.Core.Path.{_≡_, refl, sym, ap, subst, subst₂, _∙_}
 use mathlib.Core.List.{List}
 use mathlib.Core.Bool.{Bool, true, false}
-use mathlib.Core.Logic.{⊎-elim}
 use native.Mathlib.Omega.{arith}
 use native.Mathlib.Nat.{le-antisymm}
+use native.Mathlib.Decide.{decLe}
 use borrow.Author.Tests.{le-leb}
 use lib.Dec.{ltb, leb}
 use lib.ListN.{getD, set}
 use Rattle.laws.specs.Choice.{if_then_else_, when}
-use Rattle.laws.specs.BoolLaws.{both, same-or-not}
+use Rattle.laws.specs.BoolLaws.{both}
 use Rattle.plan.specs.Limits.{maxV, mostN}
 use Rattle.board_seats.specs.Seats.{isV, isN, seat}
 use Rattle.board_rules.specs.Facts.{Facts}
 use Rattle.board_keeps.specs.Fair.{InV, InN}
 use Rattle.clock_times.specs.Times.{atLengths, lengthsCell, timingIn}
-use Rattle.clock_marks.specs.Marks.{atDone, atPlace, atNext, Sized}
+use Rattle.clock_marks.specs.Marks.{atDone, atPlace, Sized}
 use Rattle.clock_marks.specs.Changes.{PutReady}
-use Rattle.clock_nexts.specs.Nexts.{placeOf, isDue}
+use Rattle.clock_nexts.specs.Nexts.{places, placeOf, rowAt, isDue, Row}
+use Rattle.clock_nexts.specs.DueLaws.{no-row-due}
 use Rattle.clock_puts.specs.SizedLaws.{sized-done, sized-place, sized-put-ready}
 use Rattle.clock_mirrors.specs.Writes.{job-put}
 use Rattle.clock_mirrors.specs.Works.{release-mirrors}
 use Rattle.clock_opens.specs.Opens.{Release, Releases}
-use Rattle.clock_opens.specs.KeepLaws.{due-kept}
-
--- THE NAMES of a seat, counted from 0
-abbrev pub vAt : ℕ → ℕ
-vAt i = i / 8 + 1
-
-abbrev pub nAt : ℕ → ℕ
-nAt i = i % 8 + 1
-
-pub v-at-in : (i : ℕ) → i < maxV * mostN → InV (vAt i)
-v-at-in i l = record { from = omega arith; to = omega arith }
-
-pub n-at-in : (i : ℕ) → InN (nAt i)
-n-at-in i = record { from = omega arith; to = omega arith }
-
-pub seat-at : (i : ℕ) → seat (vAt i) (nAt i) ≡ i + 1
-seat-at i = omega arith
 
 -- ONE RELEASE: three writes
 pub release-is : {x k k′ : List ℕ} {v n : ℕ} → Sized k → InV v → InN n → {on : Bool} → on ≡ ltb 0 (getD x (atLengths - 1 + seat v n) 0) →
@@ -81,62 +65,85 @@ module _ {x k k′ : List ℕ} {v n : ℕ} (r : Release x k k′ v n) (i : InV v
   pub release-own : getD k′ (atDone + seat v n) 0 ≡ 0
   release-own = r .ready .else-same (atDone + seat v n) (λ e. omega arith) (λ e. omega arith) ∙ r .job .done-is
 
--- THE LOOP
-module _ {x k : List ℕ} {t : ℕ} where
-  pub releases-none : Sized k → Releases x k t 0 k
-  releases-none z = record {
-    within = omega arith;
+-- SEAT AFTER SEAT
+module _ {x y : List ℕ} {t : ℕ} where
+  -- none of some seats is due
+  pub releases-none : {k : List ℕ} (r s : ℕ) → Sized k → ((j : ℕ) → r < j → j ≤ s → isDue y t (placeOf j) ≡ false) → Releases x k y t r s k
+  releases-none {k} r s z none = record {
     sized = z;
-    past = λ j a b. absurd (omega arith);
-    rest = λ j a b. refl;
-    nexts = λ i l. refl;
+    past = λ j a b. sym (ap (λ c. if c then 0 else getD k (atDone + j) 0) (none j a b));
+    rest = λ j a out. refl;
     mirrors = λ F b p o idle m. m;
   }
 
-  module _ {s : ℕ} {k′ : List ℕ} (h : Releases x k t s k′) where
-    module _ (below : s < maxV * mostN) {due : Bool} (test : due ≡ isDue x k′ t (16 + s)) where
-      -- by the list before the loop
-      due-here : due ≡ isDue x k t (placeOf (s + 1))
-      due-here = test ∙ due-kept x k k′ t (16 + s) (h .nexts (16 + s) (omega arith)) ∙ ap (isDue x k t) {x = 16 + s} {y = placeOf (s + 1)} (omega arith)
+  -- one is
+  pub releases-one : {k k′ : List ℕ} {v n : ℕ} → InV v → InN n → isDue y t (placeOf (seat v n)) ≡ true → Release x k k′ v n → Releases x k y t (seat v n - 1) (seat v n) k′
+  releases-one {k} {k′} {v} {n} i j e r = record {
+    sized = r .sized;
+    past = λ y′ a b.
+        let q : y′ ≡ seat v n = omega arith in
+        ap (λ z. getD k′ (atDone + z) 0) q ∙ release-own r i j
+        ∙ sym (ap (λ c. if c then 0 else getD k (atDone + y′) 0) (ap (λ z. isDue y t (placeOf z)) q ∙ e));
+    rest = λ y′ a out. release-else r i j (atDone + y′) (omega arith) (λ z. out (omega arith) (omega arith)) (λ z. omega arith);
+    mirrors = λ F b p o idle m.
+        release-mirrors p m o v n i j (r .job)
+        (subst (λ c. PutReady (r .mid) k′ v n (ltb 0 c)) (sym (lengths-at F x v n i j)) (r .ready))
+        (idle .none (seat v n) (omega arith) (omega arith) e);
+  }
 
-      -- not due
-      pub releases-leave : due ≡ false → Releases x k t (s + 1) k′
-      releases-leave e = record {
-        within = omega arith;
-        sized = h .sized;
-        past = λ j a b.
-            ⊎-elim
-            (λ (q : j ≡ s + 1). h .rest j (omega arith) (omega arith) ∙ sym (ap (λ c. if c then 0 else getD k (atDone + j) 0) (ap (λ y. isDue x k t (placeOf y)) q ∙ sym due-here ∙ e)))
-            (λ (ne : j ≡ s + 1 → ⊥). h .past j a (omega (arith, ne)))
-            (same-or-not j (s + 1));
-        rest = λ j a b. h .rest j (omega arith) b;
-        nexts = h .nexts;
-        mirrors = h .mirrors;
-      }
+  -- some, and then more
+  pub releases-then : {k k₁ k₂ : List ℕ} {r s u : ℕ} → r ≤ s → s ≤ u → u ≤ maxV * mostN → Releases x k y t r s k₁ → Releases x k₁ y t s u k₂ → Releases x k y t r u k₂
+  releases-then {k} {k₁} {k₂} {r} {s} {u} l m n g h = record {
+    sized = h .sized;
+    past = λ j a b. at-place j a b (decLe j s);
+    rest = λ j a out. h .rest j a (λ c d. out (omega arith) d) ∙ g .rest j a (λ c d. out c (omega arith));
+    mirrors = λ F b p o idle z. h .mirrors F b p o idle (g .mirrors F b p o idle z);
+  }
+    where
+      at-place : (j : ℕ) → r < j → j ≤ u → Dec (j ≤ s) → getD k₂ (atDone + j) 0 ≡ (if isDue y t (placeOf j) then 0 else getD k (atDone + j) 0)
+      at-place j a b (yes q) = h .rest j (omega arith) (λ c d. omega arith) ∙ g .past j a q
+      at-place j a b (no q) =
+          h .past j (omega arith) b
+          ∙ ap (λ c. if isDue y t (placeOf j) then 0 else c) (g .rest j (omega arith) (λ c d. omega arith))
 
-      -- due
-      pub releases-take : due ≡ true → {k₁ : List ℕ} → Release x k′ k₁ (vAt s) (nAt s) → Releases x k t (s + 1) k₁
-      releases-take e {k₁} r =
-          let i = v-at-in s below in
-          let j = n-at-in s in
-          let q = seat-at s in
-          record {
-            within = omega arith;
-            sized = r .sized;
-            past = λ y a b.
-                ⊎-elim
-                (λ (u : y ≡ s + 1).
-                ap (λ z. getD k₁ (atDone + z) 0) (u ∙ sym q) ∙ release-own r i j
-                ∙ sym (ap (λ c. if c then 0 else getD k (atDone + y) 0) (ap (λ z. isDue x k t (placeOf z)) u ∙ sym due-here ∙ e)))
-                (λ (ne : y ≡ s + 1 → ⊥). release-else r i j (atDone + y) (omega arith) (λ z. ne (omega arith)) (λ z. omega arith) ∙ h .past y a (omega (arith, ne)))
-                (same-or-not y (s + 1));
-            rest = λ y a b. release-else r i j (atDone + y) (omega arith) (λ z. omega arith) (λ z. omega arith) ∙ h .rest y (omega arith) b;
-            nexts = λ y l. release-else r i j (atNext + y) (omega arith) (λ z. omega arith) (λ z. omega arith) ∙ h .nexts y l;
-            mirrors = λ F b p o idle m.
-                release-mirrors p (h .mirrors F b p o idle m) o (vAt s) (nAt s) i j (r .job)
-                (subst (λ c. PutReady (r .mid) k₁ (vAt s) (nAt s) (ltb 0 c)) (sym (lengths-at F x (vAt s) (nAt s) i j)) (r .ready))
-                (ap (λ y. getD (b .waits) (y - 1) 0) q ∙ idle .none (s + 1) (omega arith) (omega arith) (sym due-here ∙ e));
-          }
+  -- the tasks of v: of the first n + 1 the last
+  module _ {k k′ : List ℕ} {v n s : ℕ} (i : InV v) (l : n < mostN) (e : s ≡ seat v (n + 1)) {due : Bool} (test : due ≡ isDue y t (15 + s)) (h : Releases x k y t (seat v 0) (seat v n) k′) where
+    due-here : due ≡ isDue y t (placeOf (seat v (n + 1)))
+    due-here = test ∙ ap (λ z. isDue y t (placeOf z)) e
 
-    pub releases-all : maxV * mostN ≤ s → Releases x k t (maxV * mostN) k′
-    releases-all l = subst (λ n. Releases x k t n k′) (le-antisymm (h .within) l) h
+    pub releases-leave : due ≡ false → Releases x k y t (seat v 0) (seat v (n + 1)) k′
+    releases-leave q =
+        releases-then (omega arith) (omega arith) (omega arith) h
+        (releases-none (seat v n) (seat v (n + 1)) (h .sized)
+        (λ j a b. let z : j ≡ seat v (n + 1) = omega arith in ap (λ c. isDue y t (placeOf c)) z ∙ sym due-here ∙ q))
+
+    pub releases-take : {k₁ : List ℕ} → due ≡ true → Release x k′ k₁ v (n + 1) → Releases x k y t (seat v 0) (seat v (n + 1)) k₁
+    releases-take {k₁} q r =
+        let z : seat v (n + 1) - 1 ≡ seat v n = omega arith in
+        releases-then (omega arith) (omega arith) (omega arith) h
+        (subst (λ c. Releases x k′ y t c (seat v (n + 1)) k₁) z (releases-one i (record { from = omega arith; to = omega arith }) (sym due-here ∙ q) r))
+
+  pub releases-row : {k k′ : List ℕ} (v : ℕ) {n : ℕ} → Releases x k y t (seat v 0) (seat v n) k′ → n ≤ mostN → mostN ≤ n → Releases x k y t (seat v 0) (seat v mostN) k′
+  releases-row {k} {k′} v h l m = subst (λ n. Releases x k y t (seat v 0) (seat v n) k′) (le-antisymm l m) h
+
+  -- the VCPUs: of the first i + 1 the last
+  module _ {k k′ : List ℕ} {i : ℕ} (l : i < maxV) (h : Releases x k y t 0 (i * mostN) k′) where
+    pub rows-leave : Row x y t (i + 1) → (getD y (places + i) 0 ≡ t → ⊥) → Releases x k y t 0 ((i + 1) * mostN) k′
+    rows-leave r ne =
+        let f = r .row-from in
+        let e : rowAt y (i + 1) ≡ getD y (places + i) 0 = ap (λ c. getD y c 0) (omega arith) in
+        let u : t < rowAt y (i + 1) = omega (arith, ne) in
+        releases-then (omega arith) (omega arith) (omega arith) h
+        (releases-none (i * mostN) ((i + 1) * mostN) (h .sized)
+        (λ j a b.
+        let q : seat (i + 1) (j - i * mostN) ≡ j = omega arith in
+        ap (λ c. isDue y t (placeOf c)) (sym q) ∙ no-row-due r u (j - i * mostN) (record { from = omega arith; to = omega arith })))
+
+    pub rows-take : {k₁ : List ℕ} → Releases x k′ y t (seat (i + 1) 0) (seat (i + 1) mostN) k₁ → Releases x k y t 0 ((i + 1) * mostN) k₁
+    rows-take {k₁} r =
+        let a : seat (i + 1) 0 ≡ i * mostN = omega arith in
+        let b : seat (i + 1) mostN ≡ (i + 1) * mostN = omega arith in
+        releases-then (omega arith) (omega arith) (omega arith) h (subst₂ (λ c d. Releases x k′ y t c d k₁) a b r)
+
+  pub rows-all : {k k′ : List ℕ} {i : ℕ} → Releases x k y t 0 (i * mostN) k′ → i ≤ maxV → maxV ≤ i → Releases x k y t 0 (maxV * mostN) k′
+  rows-all {k} {k′} h l m = subst (λ i. Releases x k y t 0 (i * mostN) k′) (le-antisymm l m) h

@@ -27,16 +27,15 @@ use Rattle.board_keeps.specs.Shaped.{Shaped}
 use Rattle.board_keeps.specs.Runs.{after-good}
 use Rattle.clock_rules.specs.Trace.{eventLine, linesAt}
 use Rattle.clock_times.specs.Times.{timingIn}
-use Rattle.clock_marks.specs.Marks.{atNext, spares, Mirrors}
+use Rattle.clock_marks.specs.Marks.{spares, Mirrors}
 use Rattle.clock_lines.specs.Told.{toldAt, toldTo, RoomAt, told-none, told-to-none, told-two, told-to-two, told-length, room-first, room-rest}
 use Rattle.clock_steps.specs.Accepted.{board-append}
 use Rattle.clock_steps.specs.Running.{after-shaped}
-use Rattle.clock_nexts.specs.Nexts.{places, nextAt, isDue}
+use Rattle.clock_nexts.specs.Nexts.{isDue}
 use Rattle.clock_puts.specs.Puts as puts
 use Rattle.clock_mirrors.specs.Supplies.{PutSupply, top-mirrors}
 use Rattle.clock_going.specs.Lines.{lines-append}
 use Rattle.clock_opens.specs.Opens.{topAt, topsTo, OneTop, Topped}
-use Rattle.clock_opens.specs.KeepLaws.{due-kept}
 
 -- LINES of one event
 one-line : (F : Facts) (t : ℕ) (b : Board) (e : Event) → linesAt F t b (e ∷ []) ≡ eventLine t e (step F b e .answer)
@@ -86,15 +85,15 @@ flat-begins (suc n) i f l = go (λ m. flat-begins n i f m) (decLe i n)
     go h (no m) = subst (λ j. Begins (flatTo j f) (flatTo n f ++ f (suc n))) {x = suc n} {y = i} (omega arith) (begins-all (flatTo n f ++ f (suc n)))
 
 -- THE LOOP
-module _ (F : Facts) (x : List ℕ) (on : Bool) (t : ℕ) (b : Board) (k a : List ℕ) (at : ℕ) where
+module _ (F : Facts) (x : List ℕ) (on : Bool) (t : ℕ) (b : Board) (k y a : List ℕ) (at : ℕ) where
   -- there is room for the lines of the first tops
-  pub room-to : (v : ℕ) → v ≤ maxV → RoomAt on (linesAt F t b (topsTo x k t maxV)) a at → RoomAt on (linesAt F t b (topsTo x k t v)) a at
+  pub room-to : (v : ℕ) → v ≤ maxV → RoomAt on (linesAt F t b (topsTo y t maxV)) a at → RoomAt on (linesAt F t b (topsTo y t v)) a at
   room-to v l h =
-      let g = flat-begins maxV v (λ w. topAt x k t w) l in
-      room-first on (linesAt F t b (topsTo x k t v)) (linesAt F t (boardAfter F b (topsTo x k t v)) (g .rest)) a at
-      (subst (λ z. RoomAt on z a at) (ap (linesAt F t b) (g .is) ∙ lines-append F t b (topsTo x k t v) (g .rest)) h)
+      let g = flat-begins maxV v (λ w. topAt y t w) l in
+      room-first on (linesAt F t b (topsTo y t v)) (linesAt F t (boardAfter F b (topsTo y t v)) (g .rest)) a at
+      (subst (λ z. RoomAt on z a at) (ap (linesAt F t b) (g .is) ∙ lines-append F t b (topsTo y t v) (g .rest)) h)
 
-  pub topped-none : Mirrors (timingIn F x) x b k → Topped F x on t b k a at 0 b k a at
+  pub topped-none : Mirrors (timingIn F x) x b k → Topped F x on t b k y a at 0 b k a at
   unfolding flatTo linesAt boardBy
   topped-none m = record {
     within = omega arith;
@@ -105,37 +104,45 @@ module _ (F : Facts) (x : List ℕ) (on : Bool) (t : ℕ) (b : Board) (k a : Lis
     size = sym (told-to-none on at);
   }
 
-  module _ {v : ℕ} {b′ : Board} {k′ a′ : List ℕ} {w : ℕ} (h : Topped F x on t b k a at v b′ k′ a′ w) where
-    -- the next ticks are as they were
-    pub topped-nexts : (i : ℕ) → i < places → nextAt k′ i ≡ nextAt k i
-    topped-nexts i l = h .else-same (atNext + i) (omega arith)
+  -- where no top is due
+  pub topped-quiet : Mirrors (timingIn F x) x b k → topsTo y t maxV ≡ [] → Topped F x on t b k y a at maxV b k a at
+  unfolding linesAt boardBy
+  topped-quiet m e = record {
+    within = omega arith;
+    board = sym (ap (boardAfter F b) e);
+    mirrors = m;
+    else-same = λ j l. refl;
+    text = sym (ap (λ es. toldAt on (linesAt F t b es) a at) e ∙ told-none on a at);
+    size = sym (ap (λ es. toldTo on (linesAt F t b es) at) e ∙ told-to-none on at);
+  }
 
+  module _ {v : ℕ} {b′ : Board} {k′ a′ : List ℕ} {w : ℕ} (h : Topped F x on t b k y a at v b′ k′ a′ w) where
     -- the board has its places
     pub topped-shaped : Shaped b → Shaped b′
-    topped-shaped s = subst Shaped (sym (h .board)) (after-shaped F s (topsTo x k t v))
+    topped-shaped s = subst Shaped (sym (h .board)) (after-shaped F s (topsTo y t v))
 
     -- and breaks no condition
     pub topped-good : Fair F → Shaped b → good F b ≡ true → good F b′ ≡ true
-    topped-good f s g = subst (λ c. good F c ≡ true) (sym (h .board)) (after-good f s g (topsTo x k t v))
+    topped-good f s g = subst (λ c. good F c ≡ true) (sym (h .board)) (after-good f s g (topsTo y t v))
 
     -- the buffer keeps its length
-    pub topped-length : RoomAt on (linesAt F t b (topsTo x k t maxV)) a at → length a′ ≡ length a
-    topped-length r = ap length (h .text) ∙ told-length on (linesAt F t b (topsTo x k t v)) a at (room-to v (h .within) r)
+    pub topped-length : RoomAt on (linesAt F t b (topsTo y t maxV)) a at → length a′ ≡ length a
+    topped-length r = ap length (h .text) ∙ told-length on (linesAt F t b (topsTo y t v)) a at (room-to v (h .within) r)
 
-    module _ (below : v < maxV) {due : Bool} (test : due ≡ isDue x k′ t v) where
+    module _ (below : v < maxV) {due : Bool} (test : due ≡ isDue y t v) where
       -- what the next VCPU gives
-      next-top : topAt x k t (v + 1) ≡ (if due then Top (v + 1) ∷ [] else [])
+      next-top : topAt y t (v + 1) ≡ (if due then Top (v + 1) ∷ [] else [])
       next-top =
-          ap (λ i. if isDue x k t i then Top (v + 1) ∷ [] else []) {x = v + 1 - 1} {y = v} (omega arith)
-          ∙ ap (λ c. if c then Top (v + 1) ∷ [] else []) (sym (test ∙ due-kept x k k′ t v (topped-nexts v (omega arith))))
+          ap (λ i. if isDue y t i then Top (v + 1) ∷ [] else []) {x = v + 1 - 1} {y = v} (omega arith)
+          ∙ ap (λ c. if c then Top (v + 1) ∷ [] else []) (sym test)
 
-      next-tops : topsTo x k t (v + 1) ≡ topsTo x k t v ++ (if due then Top (v + 1) ∷ [] else [])
-      next-tops = flat-more v (λ w. topAt x k t w) ∙ ap (λ l. topsTo x k t v ++ l) next-top
+      next-tops : topsTo y t (v + 1) ≡ topsTo y t v ++ (if due then Top (v + 1) ∷ [] else [])
+      next-tops = flat-more v (λ w. topAt y t w) ∙ ap (λ l. topsTo y t v ++ l) next-top
 
       -- it is not due
-      pub topped-leave : due ≡ false → Topped F x on t b k a at (v + 1) b′ k′ a′ w
+      pub topped-leave : due ≡ false → Topped F x on t b k y a at (v + 1) b′ k′ a′ w
       topped-leave e =
-          let q : topsTo x k t (v + 1) ≡ topsTo x k t v = next-tops ∙ ap (λ c. topsTo x k t v ++ (if c then Top (v + 1) ∷ [] else [])) e ∙ append-nil (topsTo x k t v) in
+          let q : topsTo y t (v + 1) ≡ topsTo y t v = next-tops ∙ ap (λ c. topsTo y t v ++ (if c then Top (v + 1) ∷ [] else [])) e ∙ append-nil (topsTo y t v) in
           record {
             within = omega arith;
             board = h .board ∙ ap (boardAfter F b) (sym q);
@@ -146,33 +153,33 @@ module _ (F : Facts) (x : List ℕ) (on : Bool) (t : ℕ) (b : Board) (k a : Lis
           }
 
       module _ (is : due ≡ true) where
-        due-tops : topsTo x k t (v + 1) ≡ topsTo x k t v ++ (Top (v + 1) ∷ [])
-        due-tops = next-tops ∙ ap (λ c. topsTo x k t v ++ (if c then Top (v + 1) ∷ [] else [])) is
+        due-tops : topsTo y t (v + 1) ≡ topsTo y t v ++ (Top (v + 1) ∷ [])
+        due-tops = next-tops ∙ ap (λ c. topsTo y t v ++ (if c then Top (v + 1) ∷ [] else [])) is
 
         -- its line
         abbrev lineOf : List ℕ
         lineOf = eventLine t (Top (v + 1)) (step F b′ (Top (v + 1)) .answer)
 
-        due-lines : linesAt F t b (topsTo x k t (v + 1)) ≡ linesAt F t b (topsTo x k t v) ++ lineOf
+        due-lines : linesAt F t b (topsTo y t (v + 1)) ≡ linesAt F t b (topsTo y t v) ++ lineOf
         due-lines =
             ap (linesAt F t b) due-tops
-            ∙ lines-append F t b (topsTo x k t v) (Top (v + 1) ∷ [])
-            ∙ ap (λ c. linesAt F t b (topsTo x k t v) ++ linesAt F t c (Top (v + 1) ∷ [])) (sym (h .board))
-            ∙ ap (λ l. linesAt F t b (topsTo x k t v) ++ l) (one-line F t b′ (Top (v + 1)))
+            ∙ lines-append F t b (topsTo y t v) (Top (v + 1) ∷ [])
+            ∙ ap (λ c. linesAt F t b (topsTo y t v) ++ linesAt F t c (Top (v + 1) ∷ [])) (sym (h .board))
+            ∙ ap (λ l. linesAt F t b (topsTo y t v) ++ l) (one-line F t b′ (Top (v + 1)))
 
-        due-room : RoomAt on (linesAt F t b (topsTo x k t maxV)) a at → RoomAt on (linesAt F t b (topsTo x k t v) ++ lineOf) a at
+        due-room : RoomAt on (linesAt F t b (topsTo y t maxV)) a at → RoomAt on (linesAt F t b (topsTo y t v) ++ lineOf) a at
         due-room r = subst (λ z. RoomAt on z a at) due-lines (room-to (v + 1) (omega arith) r)
 
         -- there is room for it
-        pub top-room : RoomAt on (linesAt F t b (topsTo x k t maxV)) a at → RoomAt on lineOf a′ w
+        pub top-room : RoomAt on (linesAt F t b (topsTo y t maxV)) a at → RoomAt on lineOf a′ w
         top-room r =
             subst (λ z. RoomAt on lineOf z w) (sym (h .text))
-            (subst (λ n. RoomAt on lineOf (toldAt on (linesAt F t b (topsTo x k t v)) a at) n) (sym (h .size))
-            (room-rest on (linesAt F t b (topsTo x k t v)) lineOf a at (due-room r)))
+            (subst (λ n. RoomAt on lineOf (toldAt on (linesAt F t b (topsTo y t v)) a at) n) (sym (h .size))
+            (room-rest on (linesAt F t b (topsTo y t v)) lineOf a at (due-room r)))
 
         -- it is made
-        pub topped-take : Fair F → Shaped b → good F b ≡ true → RoomAt on (linesAt F t b (topsTo x k t maxV)) a at →
-            {o : OverrunChoice} → o ≡ F .choice → {b₁ : Board} {k₁ a₁ : List ℕ} {w₁ : ℕ} → OneTop F o on t (v + 1) b′ k′ a′ w b₁ k₁ a₁ w₁ → Topped F x on t b k a at (v + 1) b₁ k₁ a₁ w₁
+        pub topped-take : Fair F → Shaped b → good F b ≡ true → RoomAt on (linesAt F t b (topsTo y t maxV)) a at →
+            {o : OverrunChoice} → o ≡ F .choice → {b₁ : Board} {k₁ a₁ : List ℕ} {w₁ : ℕ} → OneTop F o on t (v + 1) b′ k′ a′ w b₁ k₁ a₁ w₁ → Topped F x on t b k y a at (v + 1) b₁ k₁ a₁ w₁
         unfolding timingIn
         topped-take f s g r {o} z {b₁} {k₁} {a₁} {w₁} u = record {
           within = omega arith;
@@ -180,7 +187,7 @@ module _ (F : Facts) (x : List ℕ) (on : Bool) (t : ℕ) (b : Board) (k a : Lis
               u .board
               ∙ sym (one-board F b′ (Top (v + 1)))
               ∙ ap (λ c. boardAfter F c (Top (v + 1) ∷ [])) (h .board)
-              ∙ sym (ap (boardAfter F b) due-tops ∙ board-append F b (topsTo x k t v) (Top (v + 1) ∷ []));
+              ∙ sym (ap (boardAfter F b) due-tops ∙ board-append F b (topsTo y t v) (Top (v + 1) ∷ []));
           mirrors =
               subst (λ c. Mirrors (timingIn F x) x c k₁) (sym (u .board))
               (top-mirrors (h .mirrors) f (topped-shaped s) (topped-good f s g) (v + 1)
@@ -190,13 +197,13 @@ module _ (F : Facts) (x : List ℕ) (on : Bool) (t : ℕ) (b : Board) (k a : Lis
           text =
               u .text
               ∙ ap (λ z. toldAt on lineOf z w) (h .text)
-              ∙ ap (toldAt on lineOf (toldAt on (linesAt F t b (topsTo x k t v)) a at)) (h .size)
-              ∙ sym (told-two on (linesAt F t b (topsTo x k t v)) lineOf a at (due-room r))
+              ∙ ap (toldAt on lineOf (toldAt on (linesAt F t b (topsTo y t v)) a at)) (h .size)
+              ∙ sym (told-two on (linesAt F t b (topsTo y t v)) lineOf a at (due-room r))
               ∙ ap (λ z. toldAt on z a at) (sym due-lines);
           size =
               u .size
               ∙ ap (toldTo on lineOf) (h .size)
-              ∙ sym (told-to-two on (linesAt F t b (topsTo x k t v)) lineOf at)
+              ∙ sym (told-to-two on (linesAt F t b (topsTo y t v)) lineOf at)
               ∙ ap (λ z. toldTo on z at) (sym due-lines);
         }
           where
@@ -212,5 +219,5 @@ module _ (F : Facts) (x : List ℕ) (on : Bool) (t : ℕ) (b : Board) (k a : Lis
             }
 
     -- all are made
-    pub topped-all : maxV ≤ v → Topped F x on t b k a at maxV b′ k′ a′ w
-    topped-all l = subst (λ n. Topped F x on t b k a at n b′ k′ a′ w) (le-antisymm (h .within) l) h
+    pub topped-all : maxV ≤ v → Topped F x on t b k y a at maxV b′ k′ a′ w
+    topped-all l = subst (λ n. Topped F x on t b k y a at n b′ k′ a′ w) (le-antisymm (h .within) l) h

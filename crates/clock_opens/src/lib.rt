@@ -6,6 +6,7 @@ use plan::Policy;
 ghost use mathlib.Core.Path.{_≡_};
 ghost use Prim.Native.Nat.{_<_, _≤_};
 ghost use lib.ListN.{length};
+ghost use Rattle.board_seats.specs.Seats.{seat};
 ghost use Rattle.board_rules.specs.View.{factsIn};
 ghost use Rattle.board_rules.specs.Settle.{Marked};
 ghost use Rattle.board_rules.specs.Board.{step};
@@ -13,14 +14,15 @@ ghost use Rattle.clock_rules.specs.Clock.{tops};
 ghost use Rattle.clock_rules.specs.Trace.{eventLine, linesAt};
 ghost use Rattle.clock_marks.specs.Marks.{boardOf, Sized};
 ghost use Rattle.clock_lines.specs.Told.{RoomAt};
-ghost use Rattle.clock_nexts.specs.Nexts.{Nexts};
+ghost use Rattle.clock_nexts.specs.Nexts.{Nexts, Periods, Jobs};
 ghost use Rattle.clock_going.specs.Going.{timingBy, Going};
-ghost use Rattle.clock_opens.specs.Opens.{topsTo, OneTop, Topped, Release, Releases, Opening};
+ghost use Rattle.clock_opens.specs.Opens.{topsTo, OneTop, Topped, TopsMade, Release, Releases, Jobbed, Opening};
 
-// What the opening of a tick leaves: where its text ends, and the seat of the first missed job, 0 for none.
+// What the opening of a tick leaves: where its text ends, and whose job is the first missed, v and n 0 for nobody's.
 pub struct Opened {
     pub at: usize,
-    pub seat: u64,
+    pub v: u64,
+    pub n: u64,
 }
 
 // `top v` is made and told.
@@ -61,17 +63,18 @@ fn tops(
     holder: &[u16],
     waits: &[u8],
     marks: &mut [u64],
+    nexts: &[u64],
     t: u64,
     out: &mut [u8],
     at: usize,
 ) -> usize
-    requires { ⌜ Going policy choice (now view) (now times) (now left) (now over) (now stopped) (now holder) (now waits) (now marks) × RoomAt on (linesAt (factsIn policy choice (now view)) t (boardOf (now left) (now over) (now stopped) (now holder) (now waits)) (topsTo (now times) (now marks) t 16)) (now out) at ⌝ }
-    ensures { λ r. ⌜ Topped (factsIn policy choice (now (view .entry))) (now (times .entry)) on t (boardOf (now (left .entry)) (now (over .entry)) (now (stopped .entry)) (now (holder .entry)) (now (waits .entry))) (now (marks .entry)) (now (out .entry)) at 16 (boardOf (now (left .exit)) (now (over .exit)) (now (stopped .exit)) (now (holder .entry)) (now (waits .entry))) (now (marks .exit)) (now (out .exit)) r ⌝ }
+    requires { ⌜ Going policy choice (now view) (now times) (now left) (now over) (now stopped) (now holder) (now waits) (now marks) × (length (now nexts) ≡ 162) × RoomAt on (linesAt (factsIn policy choice (now view)) t (boardOf (now left) (now over) (now stopped) (now holder) (now waits)) (topsTo (now nexts) t 16)) (now out) at ⌝ }
+    ensures { λ r. ⌜ Topped (factsIn policy choice (now (view .entry))) (now (times .entry)) on t (boardOf (now (left .entry)) (now (over .entry)) (now (stopped .entry)) (now (holder .entry)) (now (waits .entry))) (now (marks .entry)) (now (nexts .entry)) (now (out .entry)) at 16 (boardOf (now (left .exit)) (now (over .exit)) (now (stopped .exit)) (now (holder .entry)) (now (waits .entry))) (now (marks .exit)) (now (out .exit)) r ⌝ }
 {
     let mut w = at;
     let mut i: u64 = 0;
     while i < 16 {
-        if clock_nexts::is_due(times, marks, i, t) {
+        if clock_nexts::is_due(nexts, i, t) {
             w = top(
                 on,
                 policy,
@@ -94,33 +97,8 @@ fn tops(
     w
 }
 
-// The job of (v, n) is released.
-fn release(times: &[u64], marks: &mut [u64], v: u64, n: u64)
-    requires { ⌜ Sized (now marks) × (0 < v) × (v ≤ 16) × (0 < n) × (n ≤ 8) ⌝ }
-    ensures { λ out. ⌜ Release (now (times .entry)) (now (marks .entry)) (now (marks .exit)) v n ⌝ }
-{
-    let e = board_seats::at(times, 159 + board_seats::seat(v, n));
-    clock_puts::put_done(marks, v, n, 0);
-    clock_puts::put_place(marks, v, n, 0);
-    clock_puts::put_ready(marks, v, n, 0 < e);
-}
-
-// The releases of tick t, where no job is missed.
-fn releases(times: &[u64], marks: &mut [u64], t: u64)
-    requires { ⌜ (length (now times) ≡ 3360) × Sized (now marks) ⌝ }
-    ensures { λ out. ⌜ Releases (now (times .entry)) (now (marks .entry)) t 128 (now (marks .exit)) ⌝ }
-{
-    let mut s: u64 = 0;
-    while s < 128 {
-        if clock_nexts::is_due(times, marks, 16 + s, t) {
-            release(times, marks, s / 8 + 1, s % 8 + 1);
-        }
-        s += 1;
-    }
-}
-
-// Tick t opens: its tops, then its releases and when each recurs next; where a job is missed, the tops alone.
-pub fn open(
+// Where tops are due at tick t, they are made, and when they recur next is written.
+fn tops_due(
     on: bool,
     policy: Policy,
     choice: OverrunChoice,
@@ -132,13 +110,17 @@ pub fn open(
     holder: &[u16],
     waits: &[u8],
     marks: &mut [u64],
+    nexts: &mut [u64],
     t: u64,
     out: &mut [u8],
     at: usize,
-) -> Opened
-    requires { ⌜ Going policy choice (now view) (now times) (now left) (now over) (now stopped) (now holder) (now waits) (now marks) × Nexts (now times) (now marks) t × (t ≤ 1000000) × RoomAt on (linesAt (factsIn policy choice (now view)) t (boardOf (now left) (now over) (now stopped) (now holder) (now waits)) (tops (timingBy policy choice (now view) (now times)) t)) (now out) at ⌝ }
-    ensures { λ r. ⌜ Opening policy choice (now (view .entry)) (now (times .entry)) on t (now (left .entry)) (now (over .entry)) (now (stopped .entry)) (now (holder .entry)) (now (waits .entry)) (now (marks .entry)) (now (out .entry)) at (now (left .exit)) (now (over .exit)) (now (stopped .exit)) (now (marks .exit)) (now (out .exit)) (r .at) (r .seat) ⌝ }
+) -> usize
+    requires { ⌜ Going policy choice (now view) (now times) (now left) (now over) (now stopped) (now holder) (now waits) (now marks) × Nexts (now times) (now nexts) t × (t ≤ 1000000) × RoomAt on (linesAt (factsIn policy choice (now view)) t (boardOf (now left) (now over) (now stopped) (now holder) (now waits)) (tops (timingBy policy choice (now view) (now times)) t)) (now out) at ⌝ }
+    ensures { λ r. ⌜ TopsMade (factsIn policy choice (now (view .entry))) (now (times .entry)) on t (boardOf (now (left .entry)) (now (over .entry)) (now (stopped .entry)) (now (holder .entry)) (now (waits .entry))) (now (marks .entry)) (now (nexts .entry)) (now (out .entry)) at (boardOf (now (left .exit)) (now (over .exit)) (now (stopped .exit)) (now (holder .entry)) (now (waits .entry))) (now (marks .exit)) (now (nexts .exit)) (now (out .exit)) r ⌝ }
 {
+    if nexts[160] != t {
+        return at;
+    }
     let w = tops(
         on,
         policy,
@@ -151,15 +133,109 @@ pub fn open(
         holder,
         waits,
         marks,
+        nexts,
         t,
         out,
         at,
     );
-    let s = clock_nexts::missed_at(times, marks, t);
-    if 0 < s {
-        return Opened { at: w, seat: s };
+    clock_nexts::renew_tops(times, nexts, t);
+    w
+}
+
+// The job of (v, n) is released.
+fn release(times: &[u64], marks: &mut [u64], v: u64, n: u64)
+    requires { ⌜ Sized (now marks) × (0 < v) × (v ≤ 16) × (0 < n) × (n ≤ 8) ⌝ }
+    ensures { λ out. ⌜ Release (now (times .entry)) (now (marks .entry)) (now (marks .exit)) v n ⌝ }
+{
+    let e = board_seats::at(times, 159 + board_seats::seat(v, n));
+    clock_puts::put_done(marks, v, n, 0);
+    clock_puts::put_place(marks, v, n, 0);
+    clock_puts::put_ready(marks, v, n, 0 < e);
+}
+
+// The releases of v's tasks at tick t.
+fn release_in(times: &[u64], marks: &mut [u64], nexts: &[u64], v: u64, t: u64)
+    requires { ⌜ Sized (now marks) × (length (now nexts) ≡ 162) × (0 < v) × (v ≤ 16) ⌝ }
+    ensures { λ out. ⌜ Releases (now (times .entry)) (now (marks .entry)) (now (nexts .entry)) t (seat v 0) (seat v 8) (now (marks .exit)) ⌝ }
+{
+    let mut n: u64 = 0;
+    while n < 8 {
+        if clock_nexts::is_due(nexts, 15 + board_seats::seat(v, n + 1), t) {
+            release(times, marks, v, n + 1);
+        }
+        n += 1;
     }
-    releases(times, marks, t);
-    clock_nexts::renew(times, marks, t);
-    Opened { at: w, seat: 0 }
+}
+
+// The releases of tick t, where no job is missed: only in rows that are due.
+fn releases(times: &[u64], marks: &mut [u64], nexts: &[u64], t: u64)
+    requires { ⌜ Sized (now marks) × (length (now nexts) ≡ 162) × Jobs (now times) (now nexts) t ⌝ }
+    ensures { λ out. ⌜ Releases (now (times .entry)) (now (marks .entry)) (now (nexts .entry)) t 0 128 (now (marks .exit)) ⌝ }
+{
+    let mut i = 0;
+    while i < 16 {
+        if nexts[144 + i] == t {
+            release_in(times, marks, nexts, i as u64 + 1, t);
+        }
+        i += 1;
+    }
+}
+
+// Where jobs are due at tick t, the first missed one is found; where none is, they are released, and when they recur next is written.
+fn jobs_due(times: &[u64], marks: &mut [u64], nexts: &mut [u64], t: u64, at: usize) -> Opened
+    requires { ⌜ Periods (now times) × Sized (now marks) × (length (now nexts) ≡ 162) × Jobs (now times) (now nexts) t × (t ≤ 1000000) ⌝ }
+    ensures { λ r. ⌜ Jobbed (now (times .entry)) (now (marks .entry)) (now (nexts .entry)) t (now (marks .exit)) (now (nexts .exit)) (r .v) (r .n) × (r .at ≡ at) ⌝ }
+{
+    if nexts[161] != t {
+        return Opened { at, v: 0, n: 0 };
+    }
+    let v = clock_nexts::missed_v(times, marks, nexts, t);
+    if 0 < v {
+        let n = clock_nexts::missed_n(times, marks, nexts, v, t);
+        return Opened { at, v, n };
+    }
+    releases(times, marks, nexts, t);
+    clock_nexts::renew_jobs(times, nexts, t);
+    Opened { at, v: 0, n: 0 }
+}
+
+// Tick t opens: its tops, then its releases; where a job is missed, the tops alone. Where nothing is due nothing is written.
+pub fn open(
+    on: bool,
+    policy: Policy,
+    choice: OverrunChoice,
+    view: &[u64],
+    times: &[u64],
+    left: &mut [u64],
+    over: &mut [u64],
+    stopped: &mut [bool],
+    holder: &[u16],
+    waits: &[u8],
+    marks: &mut [u64],
+    nexts: &mut [u64],
+    t: u64,
+    out: &mut [u8],
+    at: usize,
+) -> Opened
+    requires { ⌜ Going policy choice (now view) (now times) (now left) (now over) (now stopped) (now holder) (now waits) (now marks) × Nexts (now times) (now nexts) t × (t ≤ 1000000) × RoomAt on (linesAt (factsIn policy choice (now view)) t (boardOf (now left) (now over) (now stopped) (now holder) (now waits)) (tops (timingBy policy choice (now view) (now times)) t)) (now out) at ⌝ }
+    ensures { λ r. ⌜ Opening policy choice (now (view .entry)) (now (times .entry)) on t (now (left .entry)) (now (over .entry)) (now (stopped .entry)) (now (holder .entry)) (now (waits .entry)) (now (marks .entry)) (now (out .entry)) at (now (left .exit)) (now (over .exit)) (now (stopped .exit)) (now (marks .exit)) (now (nexts .exit)) (now (out .exit)) (r .at) (r .v) (r .n) ⌝ }
+{
+    let w = tops_due(
+        on,
+        policy,
+        choice,
+        view,
+        times,
+        left,
+        over,
+        stopped,
+        holder,
+        waits,
+        marks,
+        nexts,
+        t,
+        out,
+        at,
+    );
+    jobs_due(times, marks, nexts, t, w)
 }

@@ -1,16 +1,18 @@
 -- The task that is picked in a VCPU, by the sets that the clock keeps and by what each task holds; and who is picked by both.
 use Prim.Native.Nat.{ℕ, _+_, _<_, _≤_, max}
-use mathlib.Core.Path.{_≡_, refl, sym, ap, ap₂, _∙_}
+use mathlib.Core.Path.{_≡_, refl, sym, ap, ap₂, subst, _∙_}
 use mathlib.Core.List.{List}
 use mathlib.Core.Bool.{Bool, true, false, _&&_, not}
+use mathlib.Core.Logic.{⊎-elim}
+use native.Mathlib.Nat.{eq-zero-or-pos}
 use native.Mathlib.Omega.{arith}
 use borrow.Author.Tests.{eqb-true, eq-eqb, ne-eqb, not-false}
 use lib.Dec.{eqb}
 use lib.ListN.{getD}
 use Rattle.laws.specs.Choice.{if_then_else_}
 use Rattle.laws.specs.Range.{highest}
-use Rattle.laws.specs.RangeLaws.{any-at, highest-le, highest-same}
-use Rattle.laws.specs.BoolLaws.{both, both-right, clash, is-false}
+use Rattle.laws.specs.RangeLaws.{any-at, highest-le, highest-passes, highest-zero, highest-same}
+use Rattle.laws.specs.BoolLaws.{both, both-right, clash, is-false, same-or-not}
 use Rattle.laws_picks.specs.Picks.{topOf}
 use Rattle.laws_picks.specs.PickLaws.{top-most, top-found}
 use Rattle.plan.specs.Limits.{maxV, maxM, mostN, taskRaise}
@@ -25,11 +27,11 @@ use Rattle.board_rules.specs.declared.Next.the-variants.{Nobody, To}
 use Rattle.board_rules.specs.Board.{holds, isAsleep, localWaiter, heldGlobal, heldLocal, raisedBy, taskPriority, vcpuPriority}
 use Rattle.board_keeps.specs.Fair.{InV, InN}
 use Rattle.clock_rules.specs.Clock.{Timing, isReady, hasReady, isOn, mayRun, pickV, pickN, picked}
-use Rattle.clock_sets.specs.Sets.{inSet, Meet}
-use Rattle.clock_sets.specs.SetLaws.{in-none}
+use Rattle.clock_sets.specs.Sets.{inSet, Without, Meet}
+use Rattle.clock_sets.specs.SetLaws.{in-none, some-task}
 use Rattle.clock_times.specs.Times.{timingIn}
 use Rattle.clock_marks.specs.Marks.{atHeld, tasksCell, holdersCell, heldCell, heldBy, globalMark, doneIn, Mirrors}
-use Rattle.clock_picks.specs.Tops.{top-plain, top-same}
+use Rattle.clock_picks.specs.Tops.{top-plain, top-one, top-same}
 use Rattle.clock_picks.specs.Picking.{rankOf, PicksN}
 
 -- THE PRIORITY of a task is its rank by what it holds
@@ -94,6 +96,28 @@ module _ {T : Timing} {x : List ℕ} {b : Board} {k : List ℕ} (m : Mirrors T x
 
       own : (n : ℕ) → 0 < n → n ≤ 8 → isReady T b (doneIn k) v n ≡ true → taskPriority (T .facts) b v n ≡ n
       own n a l t = plain-priority (T .facts) b v n (sym (m .held v n i (record { from = a; to = l })) ∙ held-none n a l t)
+
+  -- one task alone is ready: that one
+  pub pick-n-alone : {s u r : ℕ} → s ≡ tasksCell k v → 0 < r → r ≤ 8 → r ≡ highest 8 (inSet s) → Without s r u → u ≡ 0 → r ≡ pickN T b (doneIn k) v
+  unfolding pickN
+  pick-n-alone {s} {u} {r} e g l q w z =
+      top-one 8 (isReady T b (doneIn k) v) (taskPriority (T .facts) b v) r g l (sym (ready-is e r g l) ∙ own) alone
+    where
+      own : inSet s r ≡ true
+      own = subst (λ y. inSet s y ≡ true) (sym q) (highest-passes 8 (inSet s) (omega arith))
+
+      alone : (j : ℕ) → 0 < j → j ≤ 8 → isReady T b (doneIn k) v j ≡ true → j ≡ r
+      alone j a c t =
+          ⊎-elim (λ y. y)
+          (λ ne. absurd (clash (w .names j a (omega arith) ∙ both (inSet s j) (not (eqb j r)) (ready-is e j a c ∙ t) (ap not (ne-eqb j r ne))) (ap (λ s. inSet s j) z ∙ in-none j)))
+          (same-or-not j r)
+
+-- a set of tasks with a part that is not empty has a highest
+pub some-highest : {s u r : ℕ} → s < 256 → u ≤ s → (u ≡ 0 → ⊥) → r ≡ highest 8 (inSet s) → 0 < r
+some-highest {s} {u} {r} h l nz q =
+    ⊎-elim
+    (λ z. absurd (clash (some-task s h ∙ ap not (ne-eqb s 0 (λ e. nz (omega arith)))) (highest-zero 8 (inSet s) .1 (sym q ∙ z))))
+    (λ g. g) (eq-zero-or-pos r)
 
 -- else the topmost by rank
 pub pick-n-ranked : (t ws k : List ℕ) (v : ℕ) {s r : ℕ} → InV v → s ≡ tasksCell k v → r ≡ topOf 8 (inSet s) (λ n. rankOf t ws v (heldCell k v n) n) → PicksN t ws k v r

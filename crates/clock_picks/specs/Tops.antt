@@ -10,7 +10,7 @@ use Rattle.laws.specs.Range.{anyTo, allTo, highest}
 use Rattle.laws.specs.RangeLaws.{highest-le, highest-passes, highest-least, highest-zero, highest-same}
 use Rattle.laws.specs.BoolLaws.{both, both-left, both-right, bool-cases, clash}
 use Rattle.laws_picks.specs.Picks.{topOf}
-use Rattle.laws_picks.specs.PickLaws.{top-zero}
+use Rattle.laws_picks.specs.PickLaws.{top-zero, top-found}
 use Rattle.clock_picks.specs.Scans.{scan-all}
 
 module _ (n : ℕ) (f : ℕ → Bool) (p : ℕ → ℕ) where
@@ -34,6 +34,10 @@ module _ (n : ℕ) (f : ℕ → Bool) (p : ℕ → ℕ) where
       (λ j a l e. let q = h j a l e in let y = highest-least n j f l e in omega arith)
       (λ j a l e. let y = highest-least n j f l e in absurd (omega arith)))
       (eq-zero-or-pos (highest n f))
+
+  -- one alone passes: that one, whatever the measure
+  pub top-one : (k : ℕ) → 0 < k → k ≤ n → f k ≡ true → ((j : ℕ) → 0 < j → j ≤ n → f j ≡ true → j ≡ k) → k ≡ topOf n f p
+  top-one k g l e alone = let r = top-found n f p k g l e in sym (alone (topOf n f p) (r .in-range .from) (r .in-range .to) (r .is-passed))
 
   -- some names are raised above all others: the highest of these, where one passes
   module _ (g : ℕ → Bool) (raised : (j : ℕ) → 0 < j → j ≤ n → f j ≡ true → g j ≡ true → p j ≡ n + j)
@@ -59,12 +63,12 @@ unfolding anyTo
 any-same zero h = refl
 any-same (suc n) h = ap₂ _||_ (h (suc n) (omega arith) (omega arith)) (any-same n (λ k a l. h k a (omega arith)))
 
--- tests and measures that agree from 1 to n have the same topmost
-all-same : (n : ℕ) {f g : ℕ → Bool} → ((k : ℕ) → 0 < k → k ≤ n → f k ≡ g k) → allTo n f ≡ allTo n g
+pub all-same : (n : ℕ) {f g : ℕ → Bool} → ((k : ℕ) → 0 < k → k ≤ n → f k ≡ g k) → allTo n f ≡ allTo n g
 unfolding allTo
 all-same zero h = refl
 all-same (suc n) h = ap₂ _&&_ (h (suc n) (omega arith) (omega arith)) (all-same n (λ k a l. h k a (omega arith)))
 
+-- tests and measures that agree from 1 to n have the same topmost
 pub top-same : (n : ℕ) {f g : ℕ → Bool} {p q : ℕ → ℕ} → ((j : ℕ) → 0 < j → j ≤ n → f j ≡ g j) → ((j : ℕ) → 0 < j → j ≤ n → p j ≡ q j) → topOf n f p ≡ topOf n g q
 unfolding topOf
 top-same n h e =

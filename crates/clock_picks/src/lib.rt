@@ -15,7 +15,7 @@ fn candidates(marks: &[u64], c: u64) -> u64
 {
     let spared = clock_sets::meet(at(marks, 1), at(marks, 3));
     let awake = clock_sets::join(at(marks, 0), spared);
-    let ready = clock_sets::meet(at(marks, 564 + c), at(marks, 2));
+    let ready = clock_sets::meet(at(marks, 420 + c), at(marks, 2));
     clock_sets::meet(ready, awake)
 }
 
@@ -77,8 +77,12 @@ pub fn pick_n(view: &[u64], waits: &[u8], marks: &[u64], v: u64) -> u64
 {
     let ready = at(marks, 3 + v);
     let holders = clock_sets::meet(ready, at(marks, 19 + v));
+    let one = clock_sets::highest_in(ready);
     if holders == 0 {
-        return clock_sets::highest_in(ready);
+        return one;
+    }
+    if clock_sets::without(ready, one) == 0 {
+        return one;
     }
     pick_ranked(view, waits, marks, v, ready)
 }
@@ -131,6 +135,6 @@ pub fn idlers(marks: &[u64], c: u64) -> u64
     requires { ⌜ Sized (now marks) × (c ≤ 3) ⌝ }
     ensures { λ r. ⌜ (r < 65536) × Idlers (now (marks .entry)) c r ⌝ }
 {
-    let budget = clock_sets::meet(at(marks, 564 + c), at(marks, 0));
+    let budget = clock_sets::meet(at(marks, 420 + c), at(marks, 0));
     clock_sets::less(budget, at(marks, 2))
 }

@@ -83,13 +83,13 @@ cores-more x k h c s l m a p =
 pub cores-are :
     (x k : List ℕ) (a b d e : ℕ) →
     length k ≡ marksLength →
-    CoreSet x 1 a → CoreSet x 2 b → CoreSet x 3 d → CoreSet x 4 e → PutCores x k (set (set (set (set k 564 a) 565 b) 566 d) 567 e)
+    CoreSet x 1 a → CoreSet x 2 b → CoreSet x 3 d → CoreSet x 4 e → PutCores x k (set (set (set (set k 420 a) 421 b) 422 d) 423 e)
 cores-are x k a b d e l p q r t =
-    let h₁ : CoresTo x k (set k 564 a) 1 = cores-more x k k 0 a l (omega arith) (cores-none x k) p in
-    let h₂ : CoresTo x k (set (set k 564 a) 565 b) 2 = cores-more x k (set k 564 a) 1 b l (omega arith) h₁ q in
-    let h₃ : CoresTo x k (set (set (set k 564 a) 565 b) 566 d) 3 = cores-more x k (set (set k 564 a) 565 b) 2 d l (omega arith) h₂ r in
-    let h₄ : CoresTo x k (set (set (set (set k 564 a) 565 b) 566 d) 567 e) 4 =
-    cores-more x k (set (set (set k 564 a) 565 b) 566 d) 3 e l (omega arith) h₃ t in
+    let h₁ : CoresTo x k (set k 420 a) 1 = cores-more x k k 0 a l (omega arith) (cores-none x k) p in
+    let h₂ : CoresTo x k (set (set k 420 a) 421 b) 2 = cores-more x k (set k 420 a) 1 b l (omega arith) h₁ q in
+    let h₃ : CoresTo x k (set (set (set k 420 a) 421 b) 422 d) 3 = cores-more x k (set (set k 420 a) 421 b) 2 d l (omega arith) h₂ r in
+    let h₄ : CoresTo x k (set (set (set (set k 420 a) 421 b) 422 d) 423 e) 4 =
+    cores-more x k (set (set (set k 420 a) 421 b) 422 d) 3 e l (omega arith) h₃ t in
     record {
       length-same = h₄ .length-same;
       else-same = h₄ .else-same;
@@ -106,7 +106,7 @@ pub record EmptyTo (k : List ℕ) (i : ℕ) : Type 0 where
 pub empty-none : {k : List ℕ} → EmptyTo k 0
 empty-none = record { at = λ j h. absurd (omega arith) }
 
-pub empty-more : {k : List ℕ} {i : ℕ} → length k ≡ 568 → i < 568 → EmptyTo k i → EmptyTo (set k i 0) (i + 1)
+pub empty-more : {k : List ℕ} {i : ℕ} → length k ≡ 424 → i < 424 → EmptyTo k i → EmptyTo (set k i 0) (i + 1)
 empty-more {k} {i} e l a =
     record {
       at = λ j h.
@@ -121,12 +121,12 @@ empty-sized k l a =
     record {
       long = l;
       sets = λ i h. rw (a .at i (omega arith)) (omega arith);
-      core-sets = λ c h. rw (a .at (564 + c) (omega arith)) (omega arith);
+      core-sets = λ c h. rw (a .at (420 + c) (omega arith)) (omega arith);
       few-tasks = λ w i. rw (a .at (3 + w) (omega arith)) (omega arith);
       few-holders = λ w i. rw (a .at (19 + w) (omega arith)) (omega arith);
     }
 
-pub cleared-is : {x k k′ : List ℕ} {i : ℕ} → 568 ≤ i → length k ≡ marksLength → EmptyTo k i → PutCores x k k′ → Cleared x k′
+pub cleared-is : {x k k′ : List ℕ} {i : ℕ} → 424 ≤ i → length k ≡ marksLength → EmptyTo k i → PutCores x k k′ → Cleared x k′
 cleared-is {k = k} h l a p =
     record {
       sized = sized-put-cores (empty-sized k l (record { at = λ j g. a .at j (omega arith) })) p;

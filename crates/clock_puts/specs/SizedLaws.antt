@@ -10,7 +10,7 @@ use lib.Seq.{getD-set-other}
 use Rattle.laws.specs.BoolLaws.{same-or-not}
 use Rattle.board_seats.specs.Seats.{seat}
 use Rattle.board_keeps.specs.Fair.{InV, InN}
-use Rattle.clock_marks.specs.Marks.{Sized, atDone, atPlace, atNext, atCores}
+use Rattle.clock_marks.specs.Marks.{Sized, atDone, atPlace, atCores}
 use Rattle.clock_marks.specs.Changes.{PutIn, PutReady, PutHeld}
 use Rattle.clock_puts.specs.Puts.{PutSupply, PutCores}
 
@@ -24,7 +24,7 @@ module _ {k : List ℕ} (z : Sized k) where
       record {
         long = p .length-same ∙ z .long;
         sets = λ j h. still k′ 65536 i j (λ e. rw e (p .is-set)) (p .else-same j) (z .sets j h);
-        core-sets = λ c h. rw (p .else-same (564 + c) (λ e. omega arith)) (z .core-sets c h);
+        core-sets = λ c h. rw (p .else-same (420 + c) (λ e. omega arith)) (z .core-sets c h);
         few-tasks = λ w a. rw (p .else-same (3 + w) (λ e. omega arith)) (z .few-tasks w a);
         few-holders = λ w a. rw (p .else-same (19 + w) (λ e. omega arith)) (z .few-holders w a);
       }
@@ -34,7 +34,7 @@ module _ {k : List ℕ} (z : Sized k) where
       record {
         long = p .length-same ∙ z .long;
         sets = λ j h. still k′ 65536 2 j (λ e. rw e (p .is-set)) (λ ne. p .else-same j ne (λ e. omega arith)) (z .sets j h);
-        core-sets = λ c h. rw (p .else-same (564 + c) (λ e. omega arith) (λ e. omega arith)) (z .core-sets c h);
+        core-sets = λ c h. rw (p .else-same (420 + c) (λ e. omega arith) (λ e. omega arith)) (z .core-sets c h);
         few-tasks = λ w a.
             still k′ 256 (3 + v) (3 + w) (λ e. rw e (p .few)) (λ ne. p .else-same (3 + w) (λ e. omega arith) ne) (z .few-tasks w a);
         few-holders = λ w a. rw (p .else-same (19 + w) (λ e. omega arith) (λ e. omega arith)) (z .few-holders w a);
@@ -45,7 +45,7 @@ module _ {k : List ℕ} (z : Sized k) where
       record {
         long = p .length-same ∙ z .long;
         sets = λ j h. rw (p .else-same j (λ e. omega arith) (λ e. omega arith)) (z .sets j h);
-        core-sets = λ c h. rw (p .else-same (564 + c) (λ e. omega arith) (λ e. omega arith)) (z .core-sets c h);
+        core-sets = λ c h. rw (p .else-same (420 + c) (λ e. omega arith) (λ e. omega arith)) (z .core-sets c h);
         few-tasks = λ w a. rw (p .else-same (3 + w) (λ e. omega arith) (λ e. omega arith)) (z .few-tasks w a);
         few-holders = λ w a.
             still k′ 256 (19 + v) (19 + w) (λ e. rw e (p .few)) (λ ne. p .else-same (19 + w) ne (λ e. omega arith)) (z .few-holders w a);
@@ -60,7 +60,7 @@ module _ {k : List ℕ} (z : Sized k) where
             (λ e. rw e (p .budget-set))
             (λ ne. still k′ 65536 1 j (λ e. rw e (p .spare-set)) (λ other. p .else-same j ne other) (z .sets j h))
             (same-or-not j 0);
-        core-sets = λ c h. rw (p .else-same (564 + c) (λ e. omega arith) (λ e. omega arith)) (z .core-sets c h);
+        core-sets = λ c h. rw (p .else-same (420 + c) (λ e. omega arith) (λ e. omega arith)) (z .core-sets c h);
         few-tasks = λ w a. rw (p .else-same (3 + w) (λ e. omega arith) (λ e. omega arith)) (z .few-tasks w a);
         few-holders = λ w a. rw (p .else-same (19 + w) (λ e. omega arith) (λ e. omega arith)) (z .few-holders w a);
       }
@@ -81,7 +81,7 @@ module _ {k : List ℕ} (z : Sized k) where
       record {
         long = length-set k j x ∙ z .long;
         sets = λ i b. rw (getD-set-other k j i x 0 (λ e. omega arith)) (z .sets i b);
-        core-sets = λ c b. rw (getD-set-other k j (564 + c) x 0 (λ e. omega arith)) (z .core-sets c b);
+        core-sets = λ c b. rw (getD-set-other k j (420 + c) x 0 (λ e. omega arith)) (z .core-sets c b);
         few-tasks = λ w a. rw (getD-set-other k j (3 + w) x 0 (λ e. omega arith)) (z .few-tasks w a);
         few-holders = λ w a. rw (getD-set-other k j (19 + w) x 0 (λ e. omega arith)) (z .few-holders w a);
       }
@@ -91,6 +91,3 @@ module _ {k : List ℕ} (z : Sized k) where
 
   pub sized-place : (v n q : ℕ) → InV v → InN n → Sized (set k (atPlace + seat v n) q)
   sized-place v n q i l = sized-set (atPlace + seat v n) q (omega arith) (omega arith)
-
-  pub sized-next : (i t : ℕ) → i < 144 → Sized (set k (atNext + i) t)
-  sized-next i t h = sized-set (atNext + i) t (omega arith) (omega arith)

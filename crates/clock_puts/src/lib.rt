@@ -151,10 +151,10 @@ pub fn put_cores(times: &[u64], marks: &mut [u64])
     requires { ⌜ length (now marks) ≡ marksLength ⌝ }
     ensures { λ out. ⌜ PutCores (now (times .entry)) (now (marks .entry)) (now (marks .exit)) ⌝ }
 {
-    marks[564] = core_set(times, 1);
-    marks[565] = core_set(times, 2);
-    marks[566] = core_set(times, 3);
-    marks[567] = core_set(times, 4);
+    marks[420] = core_set(times, 1);
+    marks[421] = core_set(times, 2);
+    marks[422] = core_set(times, 3);
+    marks[423] = core_set(times, 4);
 }
 
 // Empties the list, and writes the set of each core's VCPUs.
@@ -163,7 +163,7 @@ pub fn clear_marks(times: &[u64], marks: &mut [u64])
     ensures { λ out. ⌜ Cleared (now (times .entry)) (now (marks .exit)) ⌝ }
 {
     let mut i = 0;
-    while i < 568 {
+    while i < 424 {
         marks[i] = 0;
         i += 1;
     }

@@ -6,7 +6,7 @@ use mathlib.Core.Bool.{Bool, true, false, _&&_}
 use native.Mathlib.Omega.{arith}
 use borrow.Author.Tests.{eqb-true, eq-eqb, ltb-true, lt-ltb}
 use lib.Dec.{eqb, ltb}
-use lib.ListN.{getD}
+use lib.ListN.{length, getD}
 use Rattle.laws.specs.Choice.{when}
 use Rattle.laws.specs.Range.{listTo}
 use Rattle.laws.specs.BoolLaws.{both, both-left, both-right, both-ways}
@@ -22,15 +22,15 @@ use Rattle.board_viewcells.specs.ViewLaws.{name-in}
 use Rattle.clock_rules.specs.Clock.{atFirst, isOn}
 use Rattle.clock_sets.specs.Sets.{inSet}
 use Rattle.clock_times.specs.Times.{coreCell, lengthsCell, timingIn, Paired, Ordered}
-use Rattle.clock_marks.specs.Marks.{atBudget, atSpare, atReady, atHolding, atTasks, atHolders, atHeld, atDone, atNext, atCores, doneCell, boardOf, doneIn, spares, Mirrors}
-use Rattle.clock_nexts.specs.Nexts.{Least, periodAt, Nexts}
-use Rattle.clock_nexts.specs.LeastLaws.{least-first}
+use Rattle.clock_marks.specs.Marks.{atBudget, atSpare, atReady, atHolding, atTasks, atHolders, atHeld, atDone, atCores, doneCell, boardOf, doneIn, spares, Mirrors}
+use Rattle.clock_nexts.specs.Nexts.{places, nextsLength, Wrote}
 use Rattle.clock_puts.specs.Puts.{Cleared}
 use Rattle.clock_paced.specs.Paced.{Paced}
 use Rattle.clock_steps.specs.Running.{Running, first-running}
 use Rattle.clock_mirrors.specs.Firsts.{First, first-mirrors, first-done}
 use Rattle.clock_going.specs.Going.{timingBy, Going}
-use Rattle.clock_starts.specs.Starts.{DoneTo, SuppliedTo, Started}
+use Rattle.clock_starts.specs.Starts.{firstNexts, DoneTo, SuppliedTo, Started}
+use Rattle.clock_starts.specs.NextLaws.{first-nexts}
 
 -- a number under a test that holds
 when-in : (r : Bool) (y : ℕ) → r ≡ true → when r y ≡ y
@@ -56,13 +56,6 @@ module _ {o : OverrunChoice} {t x ls os : List ℕ} {ss : List Bool} {k₀ k₁ 
   -- a place that neither loop writes
   empty-at : (j : ℕ) → 1 < j → j < atCores → (atDone + 1 ≤ j → j < atDone + 1 + maxV * mostN → ⊥) → getD k j 0 ≡ 0
   empty-at j l h out = s .else-same j (λ e. omega arith) (λ e. omega arith) ∙ d .else-same j out ∙ c .empty j h
-
-  -- all recur at tick 0
-  pub start-nexts : Nexts x k 0
-  start-nexts = record {
-    least = λ j m g. subst (Least (periodAt x j) 0) (sym (empty-at (atNext + j) (omega arith) (omega arith) (λ a b. omega arith))) (least-first (periodAt x j) g);
-    small = λ j m g. let z = empty-at (atNext + j) (omega arith) (omega arith) (λ a b. omega arith) in omega arith;
-  }
 
   module _ {hs ws : List ℕ} (p : Policy) (b : boardOf ls os ss hs ws ≡ fresh (factsIn p o t)) where
     -- whose core is which
@@ -123,10 +116,10 @@ module _ {o : OverrunChoice} {t x ls os : List ℕ} {ss : List Bool} {k₀ k₁ 
     }
 
   -- THE LISTS ARE THOSE OF A RUN BEFORE TICK 0
-  pub started : {hs ws : List ℕ} → Ordered x → ((p : Policy) → Paced (timingBy p o t x)) → ((p : Policy) → boardOf ls os ss hs ws ≡ fresh (factsIn p o t)) → Started o t x ls os ss hs ws k
-  started ord pace b = record {
+  pub started : {hs ws : List ℕ} → Ordered x → ((p : Policy) → Paced (timingBy p o t x)) → ((p : Policy) → boardOf ls os ss hs ws ≡ fresh (factsIn p o t)) → {y₀ y₁ y : List ℕ} → length y₀ ≡ nextsLength → Wrote (firstNexts x) y₀ y₁ 0 places → Wrote (λ j. 0) y₁ y places nextsLength → Started o t x ls os ss hs ws k y
+  started ord pace b l n m = record {
     going = λ p. start-going p (b p) ord (pace p);
     board-first = λ p. start-board p (b p);
     done-first = λ p. start-done p (b p);
-    nexts = start-nexts;
+    nexts = first-nexts l n m;
   }

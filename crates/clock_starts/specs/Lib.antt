@@ -1,3 +1,4 @@
 pub mod Starts
 pub mod StartLaws
+pub mod NextLaws
 pub mod FirstLaws

@@ -48,7 +48,7 @@ module _ {x k : List ℕ} where
   done-sized h z = record {
     long = h .length-same ∙ z .long;
     sets = λ i b. rw (h .else-same i (λ a c. omega arith)) (z .sets i b);
-    core-sets = λ c b. rw (h .else-same (564 + c) (λ a d. omega arith)) (z .core-sets c b);
+    core-sets = λ c b. rw (h .else-same (420 + c) (λ a d. omega arith)) (z .core-sets c b);
     few-tasks = λ w a. rw (h .else-same (3 + w) (λ b d. omega arith)) (z .few-tasks w a);
     few-holders = λ w a. rw (h .else-same (19 + w) (λ b d. omega arith)) (z .few-holders w a);
   }

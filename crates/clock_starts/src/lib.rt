@@ -1,4 +1,4 @@
-// The clock's lists before tick 0: the board at first, every job done, and what is kept beside the board to go with that.
+// The clock's lists before tick 0: the board at first, every job done, what is kept beside the board to go with that, and that all recur at tick 0.
 use plan::OverrunChoice;
 ghost use mathlib.Core.Path.{_≡_};
 ghost use mathlib.Core.Bool.{false};
@@ -8,9 +8,10 @@ ghost use Rattle.plan.specs.declared.Policy.{Policy};
 ghost use Rattle.board_seats.specs.Seats.{budgetOf, overrunOf};
 ghost use Rattle.clock_times.specs.Times.{Paired, Ordered};
 ghost use Rattle.clock_marks.specs.Marks.{Sized};
+ghost use Rattle.clock_nexts.specs.Nexts.{Wrote};
 ghost use Rattle.clock_paced.specs.Paced.{Paced};
 ghost use Rattle.clock_going.specs.Going.{timingBy};
-ghost use Rattle.clock_starts.specs.Starts.{DoneTo, SuppliedTo, Started};
+ghost use Rattle.clock_starts.specs.Starts.{firstNext, firstNexts, DoneTo, SuppliedTo, Started};
 
 // Each VCPU has its budget and its overrun, and has not stopped.
 fn put_vcpus(view: &[u64], left: &mut [u64], over: &mut [u64], stopped: &mut [bool])
@@ -53,7 +54,7 @@ fn put_waits(waits: &mut [u8])
 
 // Every job has done all its lengths.
 fn put_lengths(times: &[u64], marks: &mut [u64])
-    requires { ⌜ (length (now times) ≡ 3360) × (length (now marks) ≡ 568) ⌝ }
+    requires { ⌜ (length (now times) ≡ 3360) × (length (now marks) ≡ 424) ⌝ }
     ensures { λ out. ⌜ DoneTo (now (times .entry)) (now (marks .entry)) (now (marks .exit)) 128 ⌝ }
 {
     let mut i = 0;
@@ -81,6 +82,37 @@ fn put_supplies(
     }
 }
 
+// The first next of one with period p.
+fn first_next(p: u64) -> u64
+    ensures { λ r. ⌜ r ≡ firstNext p ⌝ }
+{
+    if 0 < p { 0 } else { 3000000 }
+}
+
+// Each VCPU and task recurs at tick 0.
+fn put_nexts(times: &[u64], nexts: &mut [u64])
+    requires { ⌜ (length (now times) ≡ 3360) × (length (now nexts) ≡ 162) ⌝ }
+    ensures { λ out. ⌜ Wrote (firstNexts (now (times .entry))) (now (nexts .entry)) (now (nexts .exit)) 0 144 ⌝ }
+{
+    let mut i = 0;
+    while i < 144 {
+        nexts[i] = first_next(times[16 + i]);
+        i += 1;
+    }
+}
+
+// No bound of them is above tick 0.
+fn put_bounds(nexts: &mut [u64])
+    requires { ⌜ length (now nexts) ≡ 162 ⌝ }
+    ensures { λ out. ⌜ Wrote (λ j. 0) (now (nexts .entry)) (now (nexts .exit)) 144 162 ⌝ }
+{
+    let mut i = 144;
+    while i < 162 {
+        nexts[i] = 0;
+        i += 1;
+    }
+}
+
 // Writes the lists of a run before tick 0.
 pub fn start(
     choice: OverrunChoice,
@@ -92,9 +124,10 @@ pub fn start(
     holder: &mut [u16],
     waits: &mut [u8],
     marks: &mut [u64],
+    nexts: &mut [u64],
 )
-    requires { ⌜ (length (now left) ≡ 16) × (length (now over) ≡ 16) × (length (now stopped) ≡ 16) × (length (now holder) ≡ 32) × (length (now waits) ≡ 128) × (length (now marks) ≡ 568) × Paired (now view) (now times) × Ordered (now times) × ((p : Policy) → Paced (timingBy p choice (now view) (now times))) ⌝ }
-    ensures { λ out. ⌜ Started choice (now (view .entry)) (now (times .entry)) (now (left .exit)) (now (over .exit)) (now (stopped .exit)) (now (holder .exit)) (now (waits .exit)) (now (marks .exit)) ⌝ }
+    requires { ⌜ (length (now left) ≡ 16) × (length (now over) ≡ 16) × (length (now stopped) ≡ 16) × (length (now holder) ≡ 32) × (length (now waits) ≡ 128) × (length (now marks) ≡ 424) × (length (now nexts) ≡ 162) × Paired (now view) (now times) × Ordered (now times) × ((p : Policy) → Paced (timingBy p choice (now view) (now times))) ⌝ }
+    ensures { λ out. ⌜ Started choice (now (view .entry)) (now (times .entry)) (now (left .exit)) (now (over .exit)) (now (stopped .exit)) (now (holder .exit)) (now (waits .exit)) (now (marks .exit)) (now (nexts .exit)) ⌝ }
 {
     put_vcpus(view, left, over, stopped);
     put_holders(holder);
@@ -102,4 +135,6 @@ pub fn start(
     clock_puts::clear_marks(times, marks);
     put_lengths(times, marks);
     put_supplies(choice, left, over, stopped, marks);
+    put_nexts(times, nexts);
+    put_bounds(nexts);
 }

@@ -16,7 +16,7 @@ use Rattle.board_rules.specs.declared.Next.the-variants.{Nobody, To}
 use Rattle.board_rules.specs.declared.Event.the-variants.{Use}
 use Rattle.board_rules.specs.Board.{underP, nextOf}
 use Rattle.board_rules.specs.View.{factsIn}
-use Rattle.board_rules.specs.Events.{boardAfter}
+use Rattle.board_rules.specs.Events.{answers, boardAfter}
 use Rattle.clock_rules.specs.Clock.{Timing, Run, mostPicks, asksAt, asked, idles, idleUses, work, workDone, turn, afterTurn}
 use Rattle.clock_rules.specs.Trace.{linesAt}
 use Rattle.clock_times.specs.Times.{timingIn}
@@ -27,11 +27,12 @@ use Rattle.clock_steps.specs.Asking.{asking}
 use Rattle.clock_steps.specs.AskTurn.{Working, asks-taken}
 use Rattle.clock_steps.specs.WorkTurn.{idle-working}
 use Rattle.clock_lines.specs.Told.{RoomAt}
-use Rattle.clock_going.specs.Going.{timingBy, Going, Made}
+use Rattle.clock_going.specs.Going.{timingBy, Going, Made, anyHandsOn}
 use Rattle.clock_asks.specs.Asked.{Asked}
 use Rattle.clock_asks.specs.Chosen.{next-some, next-none}
 use Rattle.clock_works.specs.Making.{made-none, made-then, room-begin, room-then}
 use Rattle.clock_works.specs.Worked.{WorkerOn}
+use Rattle.clock_works.specs.Handing.{asks-no-frees, idle-no-frees, hands-after, none-hands}
 use Rattle.clock_turns.specs.Turned.{Turned, Did, Uses}
 
 -- UNDER D nobody loses a tick
@@ -90,6 +91,15 @@ module _ (T : Timing) (on : Bool) (i c : ℕ) (r : Run) (o : List ℕ) (at : ℕ
           subst (λ b. Working T c b (r₂ .done) y) (sym (m₂ .board))
           (subst (λ d. Working T c (boardAfter (T .facts) (r₁ .board) (idleUses T c (r₁ .board) (r₁ .done))) d y) (sym d₂) (idle-working p c g₁ y w₁))
 
+      -- whether a mutex was handed on is what the work says
+      pub turn-hands : {hands : Bool} → hands ≡ anyHandsOn (answers (T .facts) (r₂ .board) (work T (r₂ .done) y)) → hands ≡ anyHandsOn (answers (T .facts) (r .board) (turn T c r))
+      turn-hands q =
+          let F = T .facts in
+          q ∙ ap (λ d. anyHandsOn (answers F (r₂ .board) (work T d y))) d₂
+          ∙ sym (hands-after F (r₁ .board) (r₂ .board) (idleUses T c (r₁ .board) (r₁ .done)) (work T (r₁ .done) y) (idle-no-frees T c (r₁ .board) (r₁ .done)) (m₂ .board))
+          ∙ sym (hands-after F (r .board) (r₁ .board) (asksAt T c r .events) (idleUses T c (r₁ .board) (r₁ .done) ++ work T (r₁ .done) y) (asks-no-frees (asking T c (r .done) mostPicks (r .board))) (m₁ .board))
+          ∙ ap (λ es. anyHandsOn (answers F (r .board) es)) (sym turn-is)
+
       -- AFTER THE WORK
       module _ {r₃ : Run} {o₃ : List ℕ} {w₃ : ℕ} (m₃ : Made (T .facts) on i r₂ r₃ (work T (r₂ .done) y) o₂ w₂ o₃ w₃) (d₃ : r₃ .done ≡ workDone (r₂ .done) y) where
         -- all events of the turn are made and told
@@ -147,7 +157,16 @@ module _ {p : Policy} {a : OverrunChoice} {t x ls os : List ℕ} {ss : List Bool
         let e = sym (uses-nobody u z) in
         subst (λ y. Did p a t x on i (runIn ls os ss hs ws k) (work (timingBy p a t x) (doneIn k) y) (workDone (doneIn k) y) ls os ss hs ws k o at o at) e (did-nothing [] refl)
 
+    -- who hands nothing on
+    pub none-works-hands : v ≡ 0 → false ≡ anyHandsOn (answers (factsIn p a t) (boardOf ls os ss hs ws) (work (timingBy p a t x) (doneIn k) (nextOf v n)))
+    none-works-hands z = none-hands (factsIn p a t) (boardOf ls os ss hs ws) _ (ap (work (timingBy p a t x) (doneIn k)) (uses-nobody u z))
+
     module _ (nz : v ≡ 0 → ⊥) where
+      -- (v, n) hands on what its work does
+      pub one-works-hands : {hands : Bool} → hands ≡ anyHandsOn (answers (factsIn p a t) (boardOf ls os ss hs ws) (work (timingBy p a t x) (doneIn k) (To v n))) →
+          hands ≡ anyHandsOn (answers (factsIn p a t) (boardOf ls os ss hs ws) (work (timingBy p a t x) (doneIn k) (nextOf v n)))
+      one-works-hands e = e ∙ ap (λ y. anyHandsOn (answers (factsIn p a t) (boardOf ls os ss hs ws) (work (timingBy p a t x) (doneIn k) y))) (sym (uses-some u nz))
+
       -- there is room for the work of (v, n)
       pub work-room : RoomAt on (linesAt (factsIn p a t) i (boardOf ls os ss hs ws) (work (timingBy p a t x) (doneIn k) (nextOf v n))) o at →
           RoomAt on (linesAt (factsIn p a t) i (boardOf ls os ss hs ws) (work (timingBy p a t x) (doneIn k) (To v n))) o at
@@ -187,6 +206,12 @@ module _ {p : Policy} {a : OverrunChoice} {t x ls os : List ℕ} {ss : List Bool
           nobody = u₁ .nobody;
           somebody = u₁ .somebody;
         }
+
+        -- whether a mutex is handed on is what the work says
+        pub turn-handed : {hands : Bool} → hands ≡ anyHandsOn (answers (factsIn p a t) (boardOf ls₂ os₂ ss₂ hs₁ ws₁) (work (timingBy p a t x) (doneIn k₂) (nextOf v n))) →
+            hands ≡ anyHandsOn (answers (factsIn p a t) (boardOf ls os ss hs ws) (turn (timingBy p a t x) c (runIn ls os ss hs ws k)))
+        unfolding timingIn
+        turn-handed = turn-hands (timingBy p a t x) on i c (runIn ls os ss hs ws k) o at h (u₁ .made) (u₁ .done-same) (u₁ .pick) (u₂ .made) (u₂ .done)
 
         module _ {ls₃ os₃ : List ℕ} {ss₃ : List Bool} {hs₃ ws₃ k₃ o₃ : List ℕ} {w₃ : ℕ}
             (u₃ : Did p a t x on i (runIn ls₂ os₂ ss₂ hs₁ ws₁ k₂) (work (timingBy p a t x) (doneIn k₂) (nextOf v n)) (workDone (doneIn k₂) (nextOf v n)) ls₃ os₃ ss₃ hs₃ ws₃ k₃ o₂ w₂ o₃ w₃) where

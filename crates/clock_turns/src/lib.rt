@@ -1,4 +1,5 @@
 // A core's turn on the clock, and the turns of cores 0 to 3, on the board's arrays and what is kept beside them. What they are stands in specs/Clock of `clock_rules`, what is said of each function in specs/Turned.
+use clock_works::Worked;
 use plan::OverrunChoice;
 use plan::Policy;
 ghost use mathlib.Core.Path.{_≡_};
@@ -6,11 +7,12 @@ ghost use Prim.Native.Nat.{_≤_};
 ghost use Rattle.board_supply.specs.Supplies.{underP};
 ghost use Rattle.board_rules.specs.Board.{nextOf};
 ghost use Rattle.board_rules.specs.View.{factsIn};
+ghost use Rattle.board_rules.specs.Events.{answers};
 ghost use Rattle.clock_rules.specs.Clock as clock;
 ghost use Rattle.clock_rules.specs.Trace.{linesAt};
 ghost use Rattle.clock_marks.specs.Marks.{boardOf, runIn, doneIn};
 ghost use Rattle.clock_lines.specs.Told.{RoomAt};
-ghost use Rattle.clock_going.specs.Going.{timingBy, Going};
+ghost use Rattle.clock_going.specs.Going.{timingBy, Going, anyHandsOn};
 ghost use Rattle.clock_turns.specs.Turned.{Turned, Did, Uses};
 
 // Policy P holds.
@@ -85,13 +87,14 @@ fn works(
     t: u64,
     out: &mut [u8],
     at: usize,
-) -> usize
+) -> Worked
     requires { ⌜ Going policy choice (now view) (now times) (now left) (now over) (now stopped) (now holder) (now waits) (now marks) × Uses (timingBy policy choice (now view) (now times)) (boardOf (now left) (now over) (now stopped) (now holder) (now waits)) (doneIn (now marks)) v n ⌝ }
     requires { ⌜ RoomAt on (linesAt (factsIn policy choice (now view)) t (boardOf (now left) (now over) (now stopped) (now holder) (now waits)) (clock.work (timingBy policy choice (now view) (now times)) (doneIn (now marks)) (nextOf v n))) (now out) at ⌝ }
-    ensures { λ r. ⌜ Did policy choice (now (view .entry)) (now (times .entry)) on t (runIn (now (left .entry)) (now (over .entry)) (now (stopped .entry)) (now (holder .entry)) (now (waits .entry)) (now (marks .entry))) (clock.work (timingBy policy choice (now (view .entry)) (now (times .entry))) (doneIn (now (marks .entry))) (nextOf v n)) (clock.workDone (doneIn (now (marks .entry))) (nextOf v n)) (now (left .exit)) (now (over .exit)) (now (stopped .exit)) (now (holder .exit)) (now (waits .exit)) (now (marks .exit)) (now (out .entry)) at (now (out .exit)) r ⌝ }
+    ensures { λ r. ⌜ Did policy choice (now (view .entry)) (now (times .entry)) on t (runIn (now (left .entry)) (now (over .entry)) (now (stopped .entry)) (now (holder .entry)) (now (waits .entry)) (now (marks .entry))) (clock.work (timingBy policy choice (now (view .entry)) (now (times .entry))) (doneIn (now (marks .entry))) (nextOf v n)) (clock.workDone (doneIn (now (marks .entry))) (nextOf v n)) (now (left .exit)) (now (over .exit)) (now (stopped .exit)) (now (holder .exit)) (now (waits .exit)) (now (marks .exit)) (now (out .entry)) at (now (out .exit)) (r .at) ⌝ }
+    ensures { λ r. ⌜ r .handed ≡ anyHandsOn (answers (factsIn policy choice (now (view .entry))) (boardOf (now (left .entry)) (now (over .entry)) (now (stopped .entry)) (now (holder .entry)) (now (waits .entry))) (clock.work (timingBy policy choice (now (view .entry)) (now (times .entry))) (doneIn (now (marks .entry))) (nextOf v n))) ⌝ }
 {
     if v == 0 {
-        return at;
+        return Worked { at, handed: false };
     }
     clock_works::work(
         on,
@@ -113,7 +116,7 @@ fn works(
     )
 }
 
-// Core c's turn.
+// Core c's turn, with where the text goes on after it and whether a mutex was handed on in it.
 pub fn turn(
     on: bool,
     policy: Policy,
@@ -130,10 +133,11 @@ pub fn turn(
     t: u64,
     out: &mut [u8],
     at: usize,
-) -> usize
+) -> Worked
     requires { ⌜ Going policy choice (now view) (now times) (now left) (now over) (now stopped) (now holder) (now waits) (now marks) × (c ≤ 3) ⌝ }
     requires { ⌜ RoomAt on (linesAt (factsIn policy choice (now view)) t (boardOf (now left) (now over) (now stopped) (now holder) (now waits)) (clock.turn (timingBy policy choice (now view) (now times)) c (runIn (now left) (now over) (now stopped) (now holder) (now waits) (now marks)))) (now out) at ⌝ }
-    ensures { λ r. ⌜ Turned policy choice (now (view .entry)) (now (times .entry)) on t (runIn (now (left .entry)) (now (over .entry)) (now (stopped .entry)) (now (holder .entry)) (now (waits .entry)) (now (marks .entry))) (clock.afterTurn (timingBy policy choice (now (view .entry)) (now (times .entry))) c (runIn (now (left .entry)) (now (over .entry)) (now (stopped .entry)) (now (holder .entry)) (now (waits .entry)) (now (marks .entry)))) (clock.turn (timingBy policy choice (now (view .entry)) (now (times .entry))) c (runIn (now (left .entry)) (now (over .entry)) (now (stopped .entry)) (now (holder .entry)) (now (waits .entry)) (now (marks .entry)))) (now (left .exit)) (now (over .exit)) (now (stopped .exit)) (now (holder .exit)) (now (waits .exit)) (now (marks .exit)) (now (out .entry)) at (now (out .exit)) r ⌝ }
+    ensures { λ r. ⌜ Turned policy choice (now (view .entry)) (now (times .entry)) on t (runIn (now (left .entry)) (now (over .entry)) (now (stopped .entry)) (now (holder .entry)) (now (waits .entry)) (now (marks .entry))) (clock.afterTurn (timingBy policy choice (now (view .entry)) (now (times .entry))) c (runIn (now (left .entry)) (now (over .entry)) (now (stopped .entry)) (now (holder .entry)) (now (waits .entry)) (now (marks .entry)))) (clock.turn (timingBy policy choice (now (view .entry)) (now (times .entry))) c (runIn (now (left .entry)) (now (over .entry)) (now (stopped .entry)) (now (holder .entry)) (now (waits .entry)) (now (marks .entry)))) (now (left .exit)) (now (over .exit)) (now (stopped .exit)) (now (holder .exit)) (now (waits .exit)) (now (marks .exit)) (now (out .entry)) at (now (out .exit)) (r .at) ⌝ }
+    ensures { λ r. ⌜ r .handed ≡ anyHandsOn (answers (factsIn policy choice (now (view .entry))) (boardOf (now (left .entry)) (now (over .entry)) (now (stopped .entry)) (now (holder .entry)) (now (waits .entry))) (clock.turn (timingBy policy choice (now (view .entry)) (now (times .entry))) c (runIn (now (left .entry)) (now (over .entry)) (now (stopped .entry)) (now (holder .entry)) (now (waits .entry)) (now (marks .entry))))) ⌝ }
 {
     let p = clock_asks::asks(
         on,
@@ -213,7 +217,7 @@ pub fn turns(
     let mut w = at;
     let mut c: u64 = 0;
     while c < 4 {
-        w = turn(
+        let r = turn(
             on,
             policy,
             choice,
@@ -230,6 +234,7 @@ pub fn turns(
             out,
             w,
         );
+        w = r.at;
         c += 1;
     }
     w

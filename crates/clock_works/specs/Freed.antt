@@ -1,6 +1,6 @@
 -- A finished section is freed: what is written then of the task that held the mutex, and of the next one that has it.
 use Prim.Native.Nat.{ℕ, _+_, _-_}
-use mathlib.Core.Path.{_≡_, refl, ap, sym, subst, _∙_}
+use mathlib.Core.Path.{_≡_, refl, ap, sym, subst, subst₂, _∙_}
 use mathlib.Core.List.{List, [], _∷_}
 use mathlib.Core.Bool.{Bool, true, false, _&&_, true≢false}
 use native.Mathlib.Omega.{arith}
@@ -8,13 +8,15 @@ use borrow.Author.Tests.{le-leb, eq-eqb, ne-eqb}
 use lib.Dec.{ltb, leb}
 use lib.ListN.{getD}
 use Rattle.laws.specs.Choice.{if_then_else_, when}
-use Rattle.laws.specs.BoolLaws.{both}
-use Rattle.plan.specs.Limits.{maxV, mostN}
+use Rattle.laws.specs.Range.{anyTo}
+use Rattle.laws.specs.RangeLaws.{any-at, any-hit, highest-le}
+use Rattle.laws.specs.BoolLaws.{both, both-left, both-right, is-true}
+use Rattle.plan.specs.Limits.{maxV, maxM, mostN}
 use Rattle.plan.specs.declared.Policy.{Policy}
 use Rattle.plan.specs.declared.OverrunChoice.{OverrunChoice}
 use Rattle.plan.specs.declared.Fault.{Fault}
 use Rattle.plan.specs.declared.Fault.the-variants.{Clear, Bad}
-use Rattle.board_seats.specs.Seats.{isV, isN, seat}
+use Rattle.board_seats.specs.Seats.{isV, isN, seat, isGlobal, isLocal, holdsIt}
 use Rattle.board_walks.specs.Walks as walks
 use Rattle.board_rules.specs.Facts.{Facts}
 use Rattle.board_rules.specs.View.{factsIn}
@@ -25,24 +27,26 @@ use Rattle.board_rules.specs.declared.Next.the-variants.{Nobody, To}
 use Rattle.board_rules.specs.declared.BoardAnswer.{BoardAnswer}
 use Rattle.board_rules.specs.declared.BoardAnswer.the-variants.{Granted, Waits, Freed, Left, Shows, Refused}
 use Rattle.board_rules.specs.declared.Outcome.{Outcome}
-use Rattle.board_rules.specs.Board.{holdsGlobal, heldGlobal, heldLocal, freed, freedGlobal, freedLocal, freeFault, answered, step}
+use Rattle.board_rules.specs.Board.{waitOf, holdsGlobal, heldGlobal, heldLocal, freed, freedGlobal, freedLocal, freeFault, answered, step}
 use Rattle.board_keeps.specs.Fair.{InV, InN}
 use Rattle.clock_rules.specs.Clock.{isUnfinished, freeOf}
 use Rattle.clock_rules.specs.Trace.{eventLine, linesAt}
 use Rattle.clock_times.specs.Times.{timingIn, lengthsCell}
-use Rattle.clock_marks.specs.Marks.{atHolding, atDone, boardOf, runIn, doneIn, doneCell, globalMark, spares, Sized, Mirrors}
+use Rattle.clock_marks.specs.Marks.{atHolding, atHeld, atDone, boardOf, runIn, doneIn, doneCell, globalMark, heldBy, spares, Sized, Mirrors}
 use Rattle.clock_marks.specs.Changes.{PutIn, PutReady, PutHeld}
 use Rattle.clock_puts.specs.Puts.{PutSupply}
 use Rattle.clock_puts.specs.SizedLaws.{sized-put-held, sized-put-in, sized-put-ready}
 use Rattle.clock_steps.specs.Accepted.{isRefusal}
 use Rattle.clock_paced.specs.Paced.{Paced}
-use Rattle.clock_mirrors.specs.Frees.{PutNext, free-mirrors, waiter-unfinished, next-waited}
-use Rattle.clock_mirrors.specs.Writes.{done-kept}
+use Rattle.clock_mirrors.specs.Tells.{mirrors-tell}
+use Rattle.clock_mirrors.specs.Writes.{done-kept, tells-holding, tells-ready, tells-held}
+use Rattle.clock_mirrors.specs.Frees.{PutNext, free-mirrors, free-nobody-cells, free-to-cells, next-held, waiter-unfinished, next-waited}
 use Rattle.clock_steps.specs.Running.{Running}
 use Rattle.clock_lines.specs.Told.{toldAt, toldTo, RoomAt}
 use Rattle.clock_going.specs.Going.{timingBy, Going, Made}
 use Rattle.clock_works.specs.Making.{made-none, made-one, room-one}
 use Rattle.clock_works.specs.Using.{put-supply-of}
+use Rattle.clock_works.specs.Holding.{holdsIn, holds-told}
 
 -- WHO IS NEXT, by the answer to a `free`
 abbrev pub nextIn : BoardAnswer → Next
@@ -78,18 +82,18 @@ NextIn (To w y) = InV w × InN y
 abbrev pub heldAt : List ℕ → List ℕ → ℕ → ℕ → ℕ
 heldAt t hs w y = if walks.heldGlobal t hs w y then globalMark else walks.heldLocal t hs w y
 
--- of the next one, who waited: what it holds, that it is ready, whether its VCPU's tasks hold a global mutex
-pub record Handed (t hs : List ℕ) (w y : ℕ) (k k′ : List ℕ) : Type 0 where
+-- of the next one, who waited: that it holds m, that it is ready, whether its VCPU's tasks hold a global mutex
+pub record Handed (m : ℕ) (global : Bool) (w y : ℕ) (k k′ : List ℕ) : Type 0 where
   pub with-held : List ℕ
   pub with-ready : List ℕ
-  pub held : PutHeld k with-held w y (heldAt t hs w y)
+  pub held : PutHeld k with-held w y m
   pub ready : PutReady with-held with-ready w y true
-  pub holding : PutIn with-ready k′ atHolding w (walks.holdsGlobal t hs w)
+  pub holding : PutIn with-ready k′ atHolding w global
 
 -- whoever is next
 abbrev pub Passed : List ℕ → List ℕ → Next → List ℕ → List ℕ → Type 0
 Passed t hs Nobody k k′ = k′ ≡ k
-Passed t hs (To w y) k k′ = Handed t hs w y k k′
+Passed t hs (To w y) k k′ = Handed (heldAt t hs w y) (walks.holdsGlobal t hs w) w y k k′
 
 -- of the task (v, n) that held it too: it holds none, whether its VCPU's tasks hold a global mutex, and the supply of its VCPU
 pub record PutFreed (o : OverrunChoice) (t ls os : List ℕ) (ss : List Bool) (hs : List ℕ) (v n : ℕ) (next : Next) (k k′ : List ℕ) : Type 0 where
@@ -98,7 +102,7 @@ pub record PutFreed (o : OverrunChoice) (t ls os : List ℕ) (ss : List Bool) (h
   pub with-holding : List ℕ
   pub held : PutHeld k with-held v n 0
   pub passed : Passed t hs next with-held with-next
-  pub holding : PutIn with-next with-holding atHolding v (walks.holdsGlobal t hs v)
+  pub holding : PutIn with-next with-holding atHolding v (holdsIn with-next v)
   pub supply : PutSupply with-holding k′ v (ltb 0 (getD ls (v - 1) 0)) (spares o (getD ss (v - 1) false) (getD os (v - 1) 0))
 
 -- what task (w, y) holds: a global mutex, else what a walk of the local ones finds
@@ -109,19 +113,30 @@ held-global t hs w y e q = sym (ap (λ (s : Bool). if s then globalMark else wal
 pub held-local : (t hs : List ℕ) (w y : ℕ) {a : Bool} {m : ℕ} → a ≡ walks.heldGlobal t hs w y → a ≡ false → m ≡ walks.heldLocal t hs w y → m ≡ heldAt t hs w y
 held-local t hs w y e q r = r ∙ sym (ap (λ (s : Bool). if s then globalMark else walks.heldLocal t hs w y) (sym e ∙ q))
 
--- the three writes of the next one
-pub handed-is : (t hs : List ℕ) {w y : ℕ} {k k₁ k₂ k′ : List ℕ} {m : ℕ} {a : Bool} → m ≡ heldAt t hs w y → PutHeld k k₁ w y m → PutReady k₁ k₂ w y true →
-    a ≡ walks.holdsGlobal t hs w → PutIn k₂ k′ 3 w a → Handed t hs w y k k′
-handed-is t hs {w} {y} {k} {k₁} {k₂} {k′} em p q ea r = record {
-  with-held = k₁;
-  with-ready = k₂;
-  held = subst (PutHeld k k₁ w y) em p;
-  ready = q;
-  holding = subst (PutIn k₂ k′ 3 w) ea r;
-}
+-- WHERE THE FREED MUTEX IS GLOBAL the next one holds a global mutex
+abbrev pub GotGlobal : List ℕ → List ℕ → Bool → Next → Type 0
+GotGlobal t hs global Nobody = Unit {0}
+GotGlobal t hs global (To w y) = global ≡ true → walks.heldGlobal t hs w y ≡ true
+
+-- so that its VCPU's tasks do
+holds-some : (t hs : List ℕ) (w y : ℕ) → InN y → walks.heldGlobal t hs w y ≡ true → walks.holdsGlobal t hs w ≡ true
+holds-some t hs w y j e =
+    let r = any-at maxM (λ m. isGlobal t m && holdsIt hs w y m) e in
+    any-hit maxM (r .at) (λ m. walks.globalBy t hs w m) (r .within .from) (r .within .to)
+    (both (isGlobal t (r .at)) (anyTo mostN (λ n. holdsIt hs w n (r .at))) (both-left (isGlobal t (r .at)) (holdsIt hs w y (r .at)) (r .is))
+    (any-hit mostN y (λ n. holdsIt hs w n (r .at)) (j .from) (j .to) (both-right (isGlobal t (r .at)) (holdsIt hs w y (r .at)) (r .is))))
+
+-- and what is written of it is that
+pub handed-global : (t hs : List ℕ) {w y : ℕ} {k k′ : List ℕ} → InN y → walks.heldGlobal t hs w y ≡ true → Handed 33 true w y k k′ → Handed (heldAt t hs w y) (walks.holdsGlobal t hs w) w y k k′
+handed-global t hs {w} {y} {k} {k′} j e h = subst₂ (λ m g. Handed m g w y k k′) (held-global t hs w y (sym e) refl) (sym (holds-some t hs w y j e)) h
+
+-- else it is walked for
+pub handed-walked : (t hs : List ℕ) {w y : ℕ} {k k′ : List ℕ} {m : ℕ} {g : Bool} → m ≡ heldAt t hs w y → g ≡ walks.holdsGlobal t hs w → Handed m g w y k k′ →
+    Handed (heldAt t hs w y) (walks.holdsGlobal t hs w) w y k k′
+handed-walked t hs {w} {y} {k} {k′} e f h = subst₂ (λ m g. Handed m g w y k k′) e f h
 
 -- THE LIST STAYS SIZED
-handed-sized : {t hs : List ℕ} {w y : ℕ} {k k′ : List ℕ} → Sized k → InV w → InN y → Handed t hs w y k k′ → Sized k′
+handed-sized : {m : ℕ} {global : Bool} {w y : ℕ} {k k′ : List ℕ} → Sized k → InV w → InN y → Handed m global w y k k′ → Sized k′
 handed-sized z i j h = sized-put-in (sized-put-ready (sized-put-held z i j (h .held)) i (h .ready)) (omega arith) (h .holding)
 
 -- whoever is next
@@ -130,7 +145,7 @@ passed-sized t hs Nobody k′ z q h = subst Sized (sym h) z
 passed-sized t hs (To w y) k′ z q h = handed-sized z (q .0) (q .1) h
 
 -- THE TICKS DONE stay
-handed-cell : {t hs : List ℕ} {w y : ℕ} {k k′ : List ℕ} → InV w → InN y → Handed t hs w y k k′ → (u z : ℕ) → InV u → InN z → doneCell k′ u z ≡ doneCell k u z
+handed-cell : {m : ℕ} {global : Bool} {w y : ℕ} {k k′ : List ℕ} → InV w → InN y → Handed m global w y k k′ → (u z : ℕ) → InV u → InN z → doneCell k′ u z ≡ doneCell k u z
 handed-cell {w = w} {y = y} i j h u z a c =
     h .holding .else-same (atDone + seat u z) (λ e. omega arith) ∙ h .ready .else-same (atDone + seat u z) (λ e. omega arith) (λ e. omega arith)
     ∙ h .held .else-same (atDone + seat u z) (λ e. omega arith) (λ e. omega arith)
@@ -156,6 +171,20 @@ lengths-in p o t x w y i j = ap (λ (s : Bool). when s (lengthsCell x w y)) name
   where
     named : (isV w && isN y) ≡ true
     named = both (isV w) (isN y) (both (leb 1 w) (leb w maxV) (le-leb 1 w (i .from)) (le-leb w maxV (i .to))) (both (leb 1 y) (leb y mostN) (le-leb 1 y (j .from)) (le-leb y mostN (j .to)))
+
+-- A GLOBAL MUTEX, by the view
+global-in : (p : Policy) (o : OverrunChoice) (t : List ℕ) (m : ℕ) → factsIn p o t .global m ≡ isGlobal t m
+unfolding factsIn
+global-in p o t m = refl
+
+-- who has its mark holds one
+held-by-global : (p : Policy) (o : OverrunChoice) (t : List ℕ) (b : Board) (w y : ℕ) → heldBy (factsIn p o t) b w y ≡ globalMark → walks.heldGlobal t (b .holder) w y ≡ true
+unfolding factsIn heldGlobal heldLocal
+held-by-global p o t b w y e =
+    is-true (walks.heldGlobal t (b .holder) w y)
+    (λ z.
+    let q : walks.heldLocal t (b .holder) w y ≡ globalMark = ap (λ (s : Bool). if s then globalMark else walks.heldLocal t (b .holder) w y) (sym z) ∙ e in
+    let l = highest-le maxM (λ m. isLocal t w m && holdsIt (b .holder) w y m) in absurd (omega arith))
 
 -- WHAT IS KEPT mirrors the board after it
 module _ (p : Policy) (o : OverrunChoice) (t x : List ℕ) (pace : Paced (timingBy p o t x)) where
@@ -203,20 +232,60 @@ module _ (p : Policy) (o : OverrunChoice) (t x : List ℕ) (pace : Paced (timing
         at Nobody q = tt
         at (To w y) q = (q .v-in, q .n-in)
 
-    -- the board after it
-    freed-mirrors : {k′ : List ℕ} → (let b′ = step (factsIn p o t) b (Free v n l) .board in PutFreed o t (b′ .left) (b′ .over) (b′ .stopped) (b′ .holder) v n next k k′) →
-        Mirrors (timingBy p o t x) x (step (factsIn p o t) b (Free v n l) .board) k′
-    unfolding timingIn factsIn holdsGlobal
-    freed-mirrors h =
-        free-mirrors m (pace .fair) (r .shaped) (r .is-good) v n l next a (h .held)
-        (next-put (doneIn k) (h .with-held) (h .with-next) (step (factsIn p o t) b (Free v n l) .board) next next-waiter (h .passed)) (h .holding) (put-supply-of (h .supply))
+    -- the board after it, as its own VCPU's holders say whether they hold a global mutex
+    module _ (i : InV v) (j : InN n) where
+      next-holds : (k₁ k₂ : List ℕ) → PutHeld k k₁ v n 0 → PutNext (timingBy p o t x) (step (factsIn p o t) b (Free v n l) .board) (doneIn k) next k₁ k₂ →
+          holdsIn k₂ v ≡ holdsGlobal (factsIn p o t) (step (factsIn p o t) b (Free v n l) .board) v
+      unfolding timingIn
+      next-holds k₁ k₂ h q = at next a q
+        where
+          F : Facts
+          F = factsIn p o t
 
-    -- and b′, which is that board
-    pub freed-kept : (b′ : Board) → b′ ≡ step (factsIn p o t) b (Free v n l) .board → {k′ : List ℕ} → PutFreed o t (b′ .left) (b′ .over) (b′ .stopped) (b′ .holder) v n next k k′ →
-        Mirrors (timingBy p o t x) x b′ k′
-    freed-kept b′ e {k′} h =
-        subst (λ c. Mirrors (timingBy p o t x) x c k′) (sym e)
-        (freed-mirrors (subst (λ c. PutFreed o t (c .left) (c .over) (c .stopped) (c .holder) v n next k k′) e h))
+          b′ : Board
+          b′ = step F b (Free v n l) .board
+
+          at : (y : Next) → step F b (Free v n l) .answer ≡ Freed y → PutNext (timingBy p o t x) b′ (doneIn k) y k₁ k₂ → holdsIn k₂ v ≡ holdsGlobal F b′ v
+          at Nobody a e =
+              ap (λ (c : List ℕ). holdsIn c v) e
+              ∙ holds-told F b′ v (tells-held (mirrors-tell m) i j h) i (λ z c. free-nobody-cells m (pace .fair) (r .shaped) (r .is-good) v n l a h v z i c)
+          at (To w y) a u =
+              let d = next-waited (pace .fair) (r .shaped) (r .is-good) v n l w y a in
+              let c = d .0 in
+              holds-told F b′ v (tells-holding (tells-ready (tells-held (tells-held (mirrors-tell m) i j h) (d .0) (d .1) (u .held)) (d .0) (u .ready)) (u .holding)) i
+              (λ z e. u .holding .else-same (atHeld + seat v z) (λ s. omega arith) ∙ u .ready .else-same (atHeld + seat v z) (λ s. omega arith) (λ s. omega arith)
+              ∙ free-to-cells m (pace .fair) (r .shaped) (r .is-good) v n l w y a h (u .held) v z i e)
+
+      -- so it is mirrored
+      freed-mirrors : {k′ : List ℕ} → (let b′ = step (factsIn p o t) b (Free v n l) .board in PutFreed o t (b′ .left) (b′ .over) (b′ .stopped) (b′ .holder) v n next k k′) →
+          Mirrors (timingBy p o t x) x (step (factsIn p o t) b (Free v n l) .board) k′
+      unfolding timingIn factsIn
+      freed-mirrors h =
+          let q = next-put (doneIn k) (h .with-held) (h .with-next) (step (factsIn p o t) b (Free v n l) .board) next next-waiter (h .passed) in
+          free-mirrors m (pace .fair) (r .shaped) (r .is-good) v n l next a (h .held) q
+          (subst (PutIn (h .with-next) (h .with-holding) atHolding v) (next-holds (h .with-held) (h .with-next) (h .held) q) (h .holding)) (put-supply-of (h .supply))
+
+      -- and b′, which is that board
+      pub freed-kept : (b′ : Board) → b′ ≡ step (factsIn p o t) b (Free v n l) .board → {k′ : List ℕ} → PutFreed o t (b′ .left) (b′ .over) (b′ .stopped) (b′ .holder) v n next k k′ →
+          Mirrors (timingBy p o t x) x b′ k′
+      freed-kept b′ e {k′} h =
+          subst (λ c. Mirrors (timingBy p o t x) x c k′) (sym e)
+          (freed-mirrors (subst (λ c. PutFreed o t (c .left) (c .over) (c .stopped) (c .holder) v n next k k′) e h))
+
+    -- where l is global the next one holds a global mutex
+    pub next-global : GotGlobal t (step (factsIn p o t) b (Free v n l) .board .holder) (isGlobal t l) next
+    unfolding timingIn
+    next-global = at next a
+      where
+        F : Facts
+        F = factsIn p o t
+
+        b′ : Board
+        b′ = step F b (Free v n l) .board
+
+        at : (y : Next) → step F b (Free v n l) .answer ≡ Freed y → GotGlobal t (b′ .holder) (isGlobal t l) y
+        at Nobody a = tt
+        at (To w y) a = λ e. held-by-global p o t b′ w y (next-held m (pace .fair) (r .shaped) (r .is-good) v n l w y a ∙ ap (λ (g : Bool). if g then globalMark else waitOf b w y) (global-in p o t l ∙ e))
 
 -- `freeing` OF m, 0 FOR NOTHING TO FREE: no refusal
 abbrev pub Frees : Facts → Board → ℕ → ℕ → ℕ → Type 0
@@ -254,6 +323,13 @@ module _ {p : Policy} {o : OverrunChoice} {t x ls os : List ℕ} {ss : List Bool
     unfolding timingIn
     free-named = next-named p o t x (g .paced) (g .mirrors) (g .running) v n m (nextIn y) answer-is
 
+    -- and holds a global mutex where m is one
+    pub free-got : {global : Bool} → global ≡ isGlobal t m → {next : Next} → next ≡ nextIn y → GotGlobal t hs′ global next
+    unfolding timingIn
+    free-got c d =
+        subst₂ (GotGlobal t hs′) (sym c) (sym d)
+        (subst (λ (h : List ℕ). GotGlobal t h (isGlobal t m) (nextIn y)) (sym (ap (λ (r : Outcome). r .board .holder) q)) (next-global p o t x (g .paced) (g .mirrors) (g .running) v n m (nextIn y) answer-is))
+
     -- there is room for its line
     pub free-room : RoomAt on (linesAt (factsIn p o t) e (boardOf ls os ss hs ws) (freeOf v n m)) a at → RoomAt on (eventLine e (Free v n m) y) a at
     free-room h =
@@ -268,7 +344,7 @@ module _ {p : Policy} {o : OverrunChoice} {t x ls os : List ℕ} {ss : List Bool
     unfolding timingIn
     free-one {next} {k′} d h′ {c} {w} r z =
         let h = subst (λ u. PutFreed o t ls os ss′ hs′ v n u k k′) d h′ in (
-          freed-kept p o t x (g .paced) (g .mirrors) (g .running) v n m (nextIn y) answer-is (boardOf ls os ss′ hs′ ws′) (ap (λ (s : Outcome). s .board) q) h,
+          freed-kept p o t x (g .paced) (g .mirrors) (g .running) v n m (nextIn y) answer-is i j (boardOf ls os ss′ hs′ ws′) (ap (λ (s : Outcome). s .board) q) h,
           (
             subst (λ es. Made (factsIn p o t) on e (runIn ls os ss hs ws k) (runIn ls os ss′ hs′ ws′ k′) es a at c w) (sym (one-free nz))
                 (made-one (factsIn p o t) on e (runIn ls os ss hs ws k) (runIn ls os ss′ hs′ ws′ k′) (Free v n m) q refl z r),

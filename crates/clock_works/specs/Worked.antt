@@ -19,7 +19,7 @@ use Rattle.board_rules.specs.declared.Board.{Board}
 use Rattle.board_rules.specs.declared.Event.the-variants.{Free, Use}
 use Rattle.board_rules.specs.declared.Next.the-variants.{To}
 use Rattle.board_rules.specs.Board.{step}
-use Rattle.board_rules.specs.Events.{boardBy, boardAfter}
+use Rattle.board_rules.specs.Events.{answers, boardBy, boardAfter}
 use Rattle.board_keeps.specs.Fair.{InV, InN}
 use Rattle.clock_rules.specs.Clock.{Timing, doneOf, isReady, freeOf, work, workDone}
 use Rattle.clock_rules.specs.Trace.{linesAt}
@@ -39,9 +39,10 @@ use Rattle.clock_steps.specs.AskTurn.{Worker}
 use Rattle.clock_steps.specs.Running.{Running}
 use Rattle.clock_steps.specs.WorkTurn.{work-accepted, work-running}
 use Rattle.clock_lines.specs.Told.{RoomAt}
-use Rattle.clock_going.specs.Going.{timingBy, Going, Made}
+use Rattle.clock_going.specs.Going.{timingBy, Going, Made, anyHandsOn}
 use Rattle.clock_works.specs.Making.{made-then, room-begin, room-then}
 use Rattle.clock_works.specs.Freed.{Frees, nextIn, freed-answer, lengths-in}
+use Rattle.clock_works.specs.Handing.{hands-after}
 
 -- (v, n) is what some core picked
 pub record WorkerOn (T : Timing) (b : Board) (d : List ℕ) (v n : ℕ) : Type 0 where
@@ -191,6 +192,14 @@ module _ {p : Policy} {o : OverrunChoice} {t x ls os : List ℕ} {ss : List Bool
           let y = work-accepted (g .paced) (c .core) (g .running) (To v n) (c .worker) in
           let z = subst (λ es. Accepted F (step F (boardOf ls os ss hs ws) (Use v 1) .board) es) (ap (freeOf v n) (sym over-is) ∙ ap (λ (s : Bool). if s then [] else Free v n m ∷ []) (ne-eqb m 0 nz)) (y .1) in
           subst (λ b. isRefusal (step F b (Free v n m) .answer) ≡ false) (sym (m₁ .board)) (z .0)
+
+      -- whether a mutex was handed on: the tick hands nothing on, the `free` may
+      pub work-hands : {hands : Bool} → hands ≡ anyHandsOn (answers (factsIn p o t) (boardOf ls₁ os₁ ss₁ hs ws) (freeOf v n m)) →
+          hands ≡ anyHandsOn (answers (factsIn p o t) (boardOf ls os ss hs ws) (work (timingBy p o t x) (doneIn k) (To v n)))
+      work-hands e =
+          let F = factsIn p o t in
+          e ∙ sym (hands-after F (boardOf ls os ss hs ws) (boardOf ls₁ os₁ ss₁ hs ws) (Use v 1 ∷ []) (freeOf v n m) refl (m₁ .board))
+          ∙ ap (λ es. anyHandsOn (answers F (boardOf ls os ss hs ws) es)) (sym work-is)
 
       -- AFTER THE FREE
       module _ {ss₂ : List Bool} {hs₂ ws₂ k₂ : List ℕ} (mir : Mirrors (timingBy p o t x) x (boardOf ls₁ os₁ ss₂ hs₂ ws₂) k₂) {a₂ : List ℕ} {w₂ : ℕ}

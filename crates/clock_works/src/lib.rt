@@ -11,15 +11,24 @@ ghost use mathlib.Core.List.{[], _∷_};
 ghost use Prim.Native.Nat.{_<_, _≤_};
 ghost use Rattle.board_supply.specs.Supplies.{underP};
 ghost use Rattle.board_rules.specs.View.{factsIn};
+ghost use Rattle.board_rules.specs.Events.{answers};
 ghost use Rattle.clock_rules.specs.Clock.{idleUses, freeOf, work, workDone};
 ghost use Rattle.clock_rules.specs.Trace.{linesAt};
 ghost use Rattle.clock_lines.specs.Told.{RoomAt};
 ghost use Rattle.clock_marks.specs.Marks.{Sized, Mirrors, boardOf, runIn, doneIn, doneCell, placeCell};
 ghost use Rattle.clock_mirrors.specs.Writes.{PutJob};
-ghost use Rattle.clock_going.specs.Going.{timingBy, Going, Made};
+ghost use Rattle.clock_going.specs.Going.{timingBy, Going, Made, anyHandsOn};
 ghost use Rattle.clock_works.specs.Using.{AfterUse};
-ghost use Rattle.clock_works.specs.Freed.{nextIn, NextIn, heldAt, Handed, Passed, PutFreed, Frees};
+ghost use Rattle.clock_works.specs.Holding.{holdsIn};
+ghost use Rattle.clock_works.specs.Freed.{nextIn, NextIn, heldAt, Handed, Passed, GotGlobal, PutFreed, Frees};
+ghost use Rattle.clock_works.specs.Handing.{goesOn};
 ghost use Rattle.clock_works.specs.Worked.{WorkerOn, placeWith, OneMore};
+
+// Where the text goes on after the work of a turn; and whether a mutex was handed on in it.
+pub struct Worked {
+    pub at: usize,
+    pub handed: bool,
+}
 
 // What is kept of the supply of v after a tick of it is used: nothing changes while budget is left.
 fn after_use(
@@ -95,23 +104,28 @@ pub fn idle_uses(
     let mut rest = clock_picks::idlers(marks, c);
     while rest != 0 {
         let v = clock_sets::lowest_in(rest);
-        w = use_one(
-            on,
-            policy,
-            choice,
-            view,
-            times,
-            left,
-            over,
-            stopped,
-            holder,
-            waits,
-            marks,
-            v,
-            t,
-            out,
-            w,
-        );
+        if 1 < board_seats::figure(left, v) {
+            let a = Board::use_within(policy, choice, view, left, over, stopped, holder, v);
+            w = clock_lines::tell(on, out, w, t, Event::Use { v, t: 1 }, a);
+        } else {
+            w = use_one(
+                on,
+                policy,
+                choice,
+                view,
+                times,
+                left,
+                over,
+                stopped,
+                holder,
+                waits,
+                marks,
+                v,
+                t,
+                out,
+                w,
+            );
+        }
         rest = clock_sets::without(rest, v);
     }
     w
@@ -131,6 +145,16 @@ fn next_in(a: BoardAnswer) -> Next
     }
 }
 
+// The freed mutex goes to a task that waited.
+fn goes_on(next: Next) -> bool
+    ensures { λ r. ⌜ r ≡ goesOn next ⌝ }
+{
+    match next {
+        Next::Nobody => false,
+        Next::To { v: _, n: _ } => true,
+    }
+}
+
 // What task (w, x) holds, by the holders.
 fn held_now(view: &[u64], holder: &[u16], w: u64, x: u64) -> u64
     requires { ⌜ (w ≤ 16) × (x ≤ 8) ⌝ }
@@ -142,27 +166,49 @@ fn held_now(view: &[u64], holder: &[u16], w: u64, x: u64) -> u64
     board_walks::held_local(view, holder, w, x)
 }
 
-// Task (w, x), who waited, has been handed a mutex.
-fn handed(view: &[u64], holder: &[u16], marks: &mut [u64], w: u64, x: u64)
+// Task (w, x), who waited, has been handed a mutex: it holds m, and the tasks of w hold a global mutex or not.
+fn handed(marks: &mut [u64], w: u64, x: u64, m: u64, global: bool)
     requires { ⌜ Sized (now marks) × (0 < w) × (w ≤ 16) × (0 < x) × (x ≤ 8) ⌝ }
-    ensures { λ out. ⌜ Handed (now (view .entry)) (now (holder .entry)) w x (now (marks .entry)) (now (marks .exit)) ⌝ }
+    ensures { λ out. ⌜ Handed m global w x (now (marks .entry)) (now (marks .exit)) ⌝ }
 {
-    let m = held_now(view, holder, w, x);
     clock_puts::put_held(marks, w, x, m);
     clock_puts::put_ready(marks, w, x, true);
-    let global = board_walks::holds_global(view, holder, w);
     clock_puts::put_in(marks, clock_puts::HOLDING, w, global);
 }
 
-// The next one has the mutex, where there is one.
-fn passed(view: &[u64], holder: &[u16], marks: &mut [u64], next: Next)
-    requires { ⌜ Sized (now marks) × NextIn next ⌝ }
+// The next one has the mutex, where there is one: no mutex is walked over for a global one.
+fn passed(view: &[u64], holder: &[u16], marks: &mut [u64], global: bool, next: Next)
+    requires { ⌜ Sized (now marks) × NextIn next × GotGlobal (now view) (now holder) global next ⌝ }
     ensures { λ out. ⌜ Passed (now (view .entry)) (now (holder .entry)) next (now (marks .entry)) (now (marks .exit)) ⌝ }
 {
     match next {
         Next::Nobody => {}
-        Next::To { v: w, n: x } => handed(view, holder, marks, w, x),
+        Next::To { v: w, n: x } => {
+            if global {
+                handed(marks, w, x, 33, true);
+            } else {
+                let m = held_now(view, holder, w, x);
+                let held = board_walks::holds_global(view, holder, w);
+                handed(marks, w, x, m, held);
+            }
+        }
     }
+}
+
+// Some task of v holds a global mutex, by what is kept of its holders.
+fn holds_in(marks: &[u64], v: u64) -> bool
+    requires { ⌜ Sized (now marks) × (0 < v) × (v ≤ 16) ⌝ }
+    ensures { λ r. ⌜ r ≡ holdsIn (now (marks .entry)) v ⌝ }
+{
+    let mut rest = board_seats::at(marks, 19 + v);
+    while rest != 0 {
+        let x = clock_sets::highest_in(rest);
+        if clock_puts::held(marks, v, x) == 33 {
+            return true;
+        }
+        rest = clock_sets::without(rest, x);
+    }
+    false
 }
 
 // Task (v, n) has freed its mutex, and the next one has it.
@@ -176,15 +222,16 @@ fn after_free(
     marks: &mut [u64],
     v: u64,
     n: u64,
+    global: bool,
     next: Next,
 )
-    requires { ⌜ Sized (now marks) × (0 < v) × (v ≤ 16) × (0 < n) × (n ≤ 8) × NextIn next ⌝ }
+    requires { ⌜ Sized (now marks) × (0 < v) × (v ≤ 16) × (0 < n) × (n ≤ 8) × NextIn next × GotGlobal (now view) (now holder) global next ⌝ }
     ensures { λ out. ⌜ PutFreed choice (now (view .entry)) (now (left .entry)) (now (over .entry)) (now (stopped .entry)) (now (holder .entry)) v n next (now (marks .entry)) (now (marks .exit)) ⌝ }
 {
     clock_puts::put_held(marks, v, n, 0);
-    passed(view, holder, marks, next);
-    let global = board_walks::holds_global(view, holder, v);
-    clock_puts::put_in(marks, clock_puts::HOLDING, v, global);
+    passed(view, holder, marks, global, next);
+    let held = holds_in(marks, v);
+    clock_puts::put_in(marks, clock_puts::HOLDING, v, held);
     clock_puts::put_supply(choice, left, over, stopped, marks, v);
 }
 
@@ -207,17 +254,21 @@ fn freeing(
     t: u64,
     out: &mut [u8],
     at: usize,
-) -> usize
+) -> Worked
     requires { ⌜ (0 < v) × (v ≤ 16) × (0 < n) × (n ≤ 8) × Going policy choice (now view) (now times) (now left) (now over) (now stopped) (now holder) (now waits) (now marks) × Frees (factsIn policy choice (now view)) (boardOf (now left) (now over) (now stopped) (now holder) (now waits)) v n m ⌝ }
     requires { ⌜ RoomAt on (linesAt (factsIn policy choice (now view)) t (boardOf (now left) (now over) (now stopped) (now holder) (now waits)) (freeOf v n m)) (now out) at ⌝ }
     ensures { λ r. ⌜ Mirrors (timingBy policy choice (now (view .entry)) (now (times .entry))) (now (times .entry)) (boardOf (now (left .entry)) (now (over .entry)) (now (stopped .exit)) (now (holder .exit)) (now (waits .exit))) (now (marks .exit)) ⌝ }
-    ensures { λ r. ⌜ Made (factsIn policy choice (now (view .entry))) on t (runIn (now (left .entry)) (now (over .entry)) (now (stopped .entry)) (now (holder .entry)) (now (waits .entry)) (now (marks .entry))) (runIn (now (left .entry)) (now (over .entry)) (now (stopped .exit)) (now (holder .exit)) (now (waits .exit)) (now (marks .exit))) (freeOf v n m) (now (out .entry)) at (now (out .exit)) r ⌝ }
+    ensures { λ r. ⌜ Made (factsIn policy choice (now (view .entry))) on t (runIn (now (left .entry)) (now (over .entry)) (now (stopped .entry)) (now (holder .entry)) (now (waits .entry)) (now (marks .entry))) (runIn (now (left .entry)) (now (over .entry)) (now (stopped .exit)) (now (holder .exit)) (now (waits .exit)) (now (marks .exit))) (freeOf v n m) (now (out .entry)) at (now (out .exit)) (r .at) ⌝ }
     ensures { λ r. ⌜ doneIn (now (marks .exit)) ≡ doneIn (now (marks .entry)) ⌝ }
+    ensures { λ r. ⌜ r .handed ≡ anyHandsOn (answers (factsIn policy choice (now (view .entry))) (boardOf (now (left .entry)) (now (over .entry)) (now (stopped .entry)) (now (holder .entry)) (now (waits .entry))) (freeOf v n m)) ⌝ }
 {
     if m == 0 {
-        return at;
+        return Worked { at, handed: false };
     }
     let a = Board::free_in(policy, choice, view, left, stopped, holder, waits, v, n, m);
+    let global = board_seats::is_global(view, m);
+    let next = next_in(a);
+    let handed = goes_on(next);
     after_free(
         choice,
         view,
@@ -228,9 +279,11 @@ fn freeing(
         marks,
         v,
         n,
-        next_in(a),
+        global,
+        next,
     );
-    clock_lines::tell(on, out, at, t, Event::Free { v, n, m }, a)
+    let w = clock_lines::tell(on, out, at, t, Event::Free { v, n, m }, a);
+    Worked { at: w, handed }
 }
 
 // d ticks are done of the job of (v, n), and one more section has ended where m is not 0.
@@ -276,30 +329,36 @@ pub fn work(
     t: u64,
     out: &mut [u8],
     at: usize,
-) -> usize
+) -> Worked
     requires { ⌜ Going policy choice (now view) (now times) (now left) (now over) (now stopped) (now holder) (now waits) (now marks) × WorkerOn (timingBy policy choice (now view) (now times)) (boardOf (now left) (now over) (now stopped) (now holder) (now waits)) (doneIn (now marks)) v n ⌝ }
     requires { ⌜ RoomAt on (linesAt (factsIn policy choice (now view)) t (boardOf (now left) (now over) (now stopped) (now holder) (now waits)) (work (timingBy policy choice (now view) (now times)) (doneIn (now marks)) (Next.To v n))) (now out) at ⌝ }
     ensures { λ r. ⌜ Going policy choice (now (view .entry)) (now (times .entry)) (now (left .exit)) (now (over .exit)) (now (stopped .exit)) (now (holder .exit)) (now (waits .exit)) (now (marks .exit)) ⌝ }
-    ensures { λ r. ⌜ Made (factsIn policy choice (now (view .entry))) on t (runIn (now (left .entry)) (now (over .entry)) (now (stopped .entry)) (now (holder .entry)) (now (waits .entry)) (now (marks .entry))) (runIn (now (left .exit)) (now (over .exit)) (now (stopped .exit)) (now (holder .exit)) (now (waits .exit)) (now (marks .exit))) (work (timingBy policy choice (now (view .entry)) (now (times .entry))) (doneIn (now (marks .entry))) (Next.To v n)) (now (out .entry)) at (now (out .exit)) r ⌝ }
+    ensures { λ r. ⌜ Made (factsIn policy choice (now (view .entry))) on t (runIn (now (left .entry)) (now (over .entry)) (now (stopped .entry)) (now (holder .entry)) (now (waits .entry)) (now (marks .entry))) (runIn (now (left .exit)) (now (over .exit)) (now (stopped .exit)) (now (holder .exit)) (now (waits .exit)) (now (marks .exit))) (work (timingBy policy choice (now (view .entry)) (now (times .entry))) (doneIn (now (marks .entry))) (Next.To v n)) (now (out .entry)) at (now (out .exit)) (r .at) ⌝ }
     ensures { λ r. ⌜ doneIn (now (marks .exit)) ≡ workDone (doneIn (now (marks .entry))) (Next.To v n) ⌝ }
+    ensures { λ r. ⌜ r .handed ≡ anyHandsOn (answers (factsIn policy choice (now (view .entry))) (boardOf (now (left .entry)) (now (over .entry)) (now (stopped .entry)) (now (holder .entry)) (now (waits .entry))) (work (timingBy policy choice (now (view .entry)) (now (times .entry))) (doneIn (now (marks .entry))) (Next.To v n))) ⌝ }
 {
-    let used = use_one(
-        on,
-        policy,
-        choice,
-        view,
-        times,
-        left,
-        over,
-        stopped,
-        holder,
-        waits,
-        marks,
-        v,
-        t,
-        out,
-        at,
-    );
+    let used = if 1 < board_seats::figure(left, v) {
+        let a = Board::use_within(policy, choice, view, left, over, stopped, holder, v);
+        clock_lines::tell(on, out, at, t, Event::Use { v, t: 1 }, a)
+    } else {
+        use_one(
+            on,
+            policy,
+            choice,
+            view,
+            times,
+            left,
+            over,
+            stopped,
+            holder,
+            waits,
+            marks,
+            v,
+            t,
+            out,
+            at,
+        )
+    };
     let m = clock_picks::over(times, marks, v, n);
     let freed = freeing(
         on,

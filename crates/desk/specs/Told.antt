@@ -98,7 +98,7 @@ module _ (s : List ℕ) {vt mt ot ts : List ℕ} (l : Ample (lent vt mt ot ts)) 
       λ i. lent (v i) (m i) (o i) (k i) in
       w ∙ accepted-left s into r (sym h ∙ e)
 
-  left-lies : (r : PlanRecord) → a ≡ Accepted r → (p : Plan) × Lies s r left p
+  pub left-lies : (r : PlanRecord) → a ≡ Accepted r → (p : Plan) × Lies s r left p
   left-lies r e = rw (left-is r e) (accepted-lies s into l r (sym h ∙ e))
 
   pub left-sure : Sure a left

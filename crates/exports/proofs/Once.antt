@@ -10,6 +10,7 @@ use Rattle.laws.specs.Once.{once}
 use Rattle.laws.specs.Sure.{Sure, free, of-two}
 use Rattle.exports.proofs.ryefrost_verdict as ryefrost_verdict
 use Rattle.exports.proofs.ryefrost_board as ryefrost_board
+use Rattle.exports.proofs.ryefrost_run as ryefrost_run
 
 module _ {M : Type 1} (𝓤 : URA M) (H : Heap 𝓤) (A : Atoms 𝓤) (mem : Memory → SProp 𝓤) (run : Routine → Fun 𝓤) where
   pub ryefrost-verdict-once : Sure 𝓤 ryefrost_verdict.ended (ryefrost_verdict.clauses 𝓤 H A mem run)
@@ -17,3 +18,6 @@ module _ {M : Type 1} (𝓤 : URA M) (H : Heap 𝓤) (A : Atoms 𝓤) (mem : Mem
 
   pub ryefrost-board-once : Sure 𝓤 ryefrost_board.ended (ryefrost_board.clauses 𝓤 H A mem run)
   ryefrost-board-once = (λ κs a. free 𝓤, λ κs a g h x y. of-two 𝓤 (λ p q i. (once (p .0) (q .0) i, (tt, (tt, (once (p .1) (q .1) i, tt))))))
+
+  pub ryefrost-run-once : Sure 𝓤 ryefrost_run.ended (ryefrost_run.clauses 𝓤 H A mem run)
+  ryefrost-run-once = (λ κs a. free 𝓤, λ κs a g h x y. of-two 𝓤 (λ p q i. (once (p .0) (q .0) i, (tt, (tt, (once (p .1) (q .1) i, tt))))))

@@ -1,10 +1,12 @@
-// An answer of a call as one number, for callers outside: the bytes written, or the refusal's number, negated.
+// An answer of a call as one number, for callers outside: the bytes written, or how a run ends, or the refusal's number, negated.
+use clock_rules::RunAnswer;
 use listing_lines::TextAnswer;
 use plan::Refusal;
 ghost use mathlib.Core.Path.{_≡_};
-ghost use Prim.Native.Nat.{_<_, _^_};
+ghost use Prim.Native.Nat.{_≤_, _<_, _^_};
+ghost use lib.ListN.{length};
 ghost use Rattle.listing_lines.specs.Into.{bytesIn};
-ghost use Rattle.exports_codes.specs.Exported.{negated, exported};
+ghost use Rattle.exports_codes.specs.Exported.{negated, exported, runExported, missedLeft};
 
 // A refusal as a number below 0.
 fn negated(r: Refusal) -> i64
@@ -37,5 +39,36 @@ pub fn exported(a: TextAnswer) -> i64
     match a {
         TextAnswer::Written(n) => n as i64,
         TextAnswer::Refused(r) => negated(r),
+    }
+}
+
+// How a run ends, as one number: 0 before its horizon, 1 at a missed job.
+pub fn run_exported(a: RunAnswer) -> i64
+    ensures { λ n. ⌜ n ≡ runExported a ⌝ }
+{
+    match a {
+        RunAnswer::Ended => 0,
+        RunAnswer::Missed {
+            tick: _,
+            v: _,
+            n: _,
+        } => 1,
+        RunAnswer::NoRun(r) => negated(r),
+    }
+}
+
+// Leaves the tick, v and n of a missed job in the first three places.
+pub fn leave_missed(a: RunAnswer, missed: &mut [u64])
+    requires { ⌜ 3 ≤ length (now missed) ⌝ }
+    ensures { λ x. ⌜ now (missed .exit) ≡ missedLeft a (now (missed .entry)) ⌝ }
+{
+    match a {
+        RunAnswer::Ended => {}
+        RunAnswer::Missed { tick, v, n } => {
+            missed[0] = tick;
+            missed[1] = v;
+            missed[2] = n;
+        }
+        RunAnswer::NoRun(_) => {}
     }
 }

@@ -3,7 +3,8 @@ use Prim.Native.Nat.{ℕ}
 use mathlib.Core.Path.{_≡_, ap}
 use mathlib.Core.List.{List}
 use Rattle.plan.specs.Limits.{mostTasks}
-use Rattle.plan.specs.declared.Refusal.the-variants.{Foreign}
+use Rattle.laws.specs.Choice.{if_then_else_}
+use Rattle.plan.specs.declared.Refusal.the-variants.{Range, Foreign}
 use Rattle.plan_tables.specs.declared.PlanRecord.{PlanRecord}
 use Rattle.plan_tables.specs.Layout.{Tables}
 use Rattle.figures.specs.System.{system}
@@ -15,9 +16,11 @@ use Rattle.listing.specs.Listing.{listing}
 use Rattle.listing_lines.specs.declared.TextAnswer.the-variants.{Refused}
 use Rattle.listing_lines.specs.Into.{textAnswer, textAfter}
 use Rattle.listing_asked.specs.Asked.{listingAsked, listingLeft}
+use Rattle.clock_rules.specs.declared.RunAnswer.the-variants.{NoRun}
+use Rattle.clock_rules.specs.Clock.{timingOf, runOf, isHorizon, runFor}
 use Rattle.records.specs.declared.Task.{Task}
 use Rattle.records.specs.Sheet.{cutTo, tablesOf}
-use Rattle.records_ask.specs.Replies.{Question, IsGiven, VcpuTime, WaitTime, TaskTime, SectionResponse, Given, Row, TaskRow, Figure, replyTo}
+use Rattle.records_ask.specs.Replies.{Question, IsGiven, VcpuTime, WaitTime, TaskTime, SectionResponse, RunTo, Given, Row, TaskRow, Figure, Run, replyTo}
 use Rattle.records.specs.CutLaws.{cut-told, cut-given}
 
 module _ (vt mt ot : List ℕ) (ks : List Task) (r : PlanRecord) where
@@ -28,12 +31,14 @@ module _ (vt mt ot : List ℕ) (ks : List Task) (r : PlanRecord) where
   whole = tablesOf vt mt ot ks
 
   pub reply-cut : (q : Question) → replyTo r cut q ≡ replyTo r whole q
-  unfolding replyTo vcpuAsked waitAsked taskAsked responseAsked
+  unfolding replyTo vcpuAsked waitAsked taskAsked responseAsked runFor
   reply-cut IsGiven = ap Given (cut-given vt mt ot ks r)
   reply-cut (VcpuTime v) = ap Row (cut-told vt mt ot ks (λ p. vcpuRowOf (system p) v) (NoRow Foreign) r)
   reply-cut (WaitTime v n i) = ap Row (cut-told vt mt ot ks (λ p. waitRowOf (system p) v n i) (NoRow Foreign) r)
   reply-cut (TaskTime v n) = ap TaskRow (cut-told vt mt ot ks (λ p. taskRowOf (system p) v n) (NoTaskRow Foreign) r)
   reply-cut (SectionResponse v n i) = ap Figure (cut-told vt mt ot ks (λ p. responseRowOf (system p) v n i) (NoFigure Foreign) r)
+  reply-cut (RunTo h) =
+      ap Run (cut-told vt mt ot ks (λ p. if isHorizon h then runOf (timingOf (system p)) h else NoRun Range) (NoRun Foreign) r)
 
   pub listing-cut : (o : List ℕ) → listingAsked r cut o ≡ listingAsked r whole o
   unfolding listingAsked

@@ -2,6 +2,7 @@
 use answers_rows::FigureAnswer;
 use answers_rows::RowAnswer;
 use answers_rows::TaskRowAnswer;
+use clock_rules::RunAnswer;
 use listing_lines::TextAnswer;
 use plan::MOST_TASKS;
 use plan_tables::PlanRecord;
@@ -14,13 +15,14 @@ ghost use Rattle.listing_asked.specs.Asked.{listingAsked, listingLeft};
 ghost use Rattle.records.specs.Sheet.{tablesOf};
 ghost use Rattle.records_ask.specs.Replies.{replyTo};
 
-// What may be asked of lent tables: the test for 9, how late a VCPU can finish, how long task (v, n) can wait at a lock place, how late it can finish, and the response of its global section at a lock place.
+// What may be asked of lent tables: the test for 9, how late a VCPU can finish, how long task (v, n) can wait at a lock place, how late it can finish, the response of its global section at a lock place, and the run to horizon h on a clock.
 pub enum Question {
     IsGiven,
     VcpuTime { v: u64 },
     WaitTime { v: u64, n: u64, place: u64 },
     TaskTime { v: u64, n: u64 },
     SectionResponse { v: u64, n: u64, place: u64 },
+    RunTo { h: u64 },
 }
 
 // What is replied.
@@ -29,6 +31,7 @@ pub enum Replied {
     Row(RowAnswer),
     TaskRow(TaskRowAnswer),
     Figure(FigureAnswer),
+    Run(RunAnswer),
 }
 
 // The reply, on rows of numbers.
@@ -53,6 +56,7 @@ fn reply_on(r: PlanRecord, vt: &[u64], mt: &[u64], ot: &[u64], ts: &[u64], q: Qu
         Question::SectionResponse { v, n, place } => {
             Replied::Figure(answers_rows::section_response(r, vt, mt, ot, ts, v, n, place))
         }
+        Question::RunTo { h } => Replied::Run(clock_tables::run_of(r, vt, mt, ot, ts, h)),
     }
 }
 

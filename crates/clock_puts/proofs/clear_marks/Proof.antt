@@ -9,10 +9,10 @@ use Rattle.clock_puts.proofs.clear_marks.Statement.{statement}
 use Rattle.clock_puts.proofs.clear_marks.Tie as tie
 
 abbrev Inv-loop : tie.InvT-loop
-Inv-loop times marks₀ i₀ marks i = (length marks ≡ 568) × (length marks ≡ length marks₀) × EmptyTo marks i
+Inv-loop times marks₀ i₀ marks i = (length marks ≡ 424) × (length marks ≡ length marks₀) × EmptyTo marks i
 
 abbrev μ-loop : tie.MeasureT-loop
-μ-loop times marks₀ i₀ marks i = 568 - i
+μ-loop times marks₀ i₀ marks i = 424 - i
 
 loop-holds : tie.Need-loop-holds Inv-loop μ-loop
 loop-holds c = (c .before .before .pre, search needs, empty-none)

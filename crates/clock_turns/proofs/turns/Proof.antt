@@ -33,7 +33,7 @@ loop-again : tie.Need-loop-again Inv-loop μ-loop
 loop-again c =
     let i = c .before .before .before .before .before .before .before .before .before .before .before .before .before .before .before .before .before .before .before .before .before .before .before .loop .inv in
     let l = c .before .before .before .before .before .before .before .before .before .before .before .before .before .before .before .before .before .before .before .before .before .before .loop-test .taken in
-    rest-more i (omega arith) (c .before .before .before .before .before .before .before .before .before .before .before .before .before .before .turn .ensures)
+    rest-more i (omega arith) (c .before .before .before .before .before .before .before .before .before .before .before .before .before .before .turn .ensures .0)
 
 same-length : tie.Need-same-length Inv-loop μ-loop
 same-length c = c .before .loop .inv .going .running .shaped .left-long ∙ sym (c .before .before .before .before .before .before .before .before .before .before .before .pre .0 .running .shaped .left-long)

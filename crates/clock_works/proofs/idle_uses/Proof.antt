@@ -1,11 +1,23 @@
 -- `idle_uses` meets its contract. The loop's invariant: the uses of the VCPUs up to some number are made, and the others are in the set.
-use mathlib.Core.Path.{_≡_, refl, sym, _∙_}
+use Prim.Native.Nat.{_<_}
+use mathlib.Core.Path.{_≡_, refl, sym, subst, _∙_}
+use mathlib.Core.Logic.{⊎-elim}
+use borrow.Author.Needs.{needs}
 use lib.ListN.{length}
 use Rattle.board_rules.specs.View.{factsIn}
+use Rattle.board_rules.proofs.Board.use_within.Reads as use-within-reads
+use Rattle.board_seats.proofs.figure.Reads as figure-reads
+use Rattle.clock_lines.proofs.tell.Reads as tell-reads
+use Rattle.clock_picks.proofs.idlers.Reads as idlers-reads
+use Rattle.clock_sets.proofs.lowest_in.Reads as lowest-in-reads
+use Rattle.clock_sets.proofs.without.Reads as without-reads
 use Rattle.clock_marks.specs.Marks.{runIn, doneIn}
 use Rattle.clock_going.specs.Going.{timingBy, Going}
 use Rattle.clock_works.specs.Idling.{Idling, idling-first, idling-all, idling-more, idling-less, next-in, next-room, next-length}
-use Rattle.clock_works.specs.Using.{going-shaped}
+use Rattle.clock_works.specs.Using.{going-shaped, going-marked-any, going-vcpu, use-room, within-result, UsedOne, used-one}
+use Rattle.clock_works.proofs.use_one.Reads as use-one-reads
+use Rattle.clock_works.proofs.idle_uses.Reads as reads
+use Rattle.clock_works.proofs.idle_uses.Lts as lts
 use Rattle.clock_works.proofs.idle_uses.Statement.{statement}
 use Rattle.clock_works.proofs.idle_uses.Tie as tie
 
@@ -31,32 +43,89 @@ loop-holds c =
 lowest-in-requires : tie.Need-lowest-in-requires Inv-loop μ-loop
 lowest-in-requires c κs = c .before .loop .inv .0 .is-set
 
+use-within-requires : tie.Need-use-within-requires Inv-loop μ-loop
+use-within-requires c κs =
+    let i = c .before .before .before .before .before .before .before .before .loop .inv in
+    let nz = c .before .before .before .before .before .before .before .loop-test .taken in
+    let g = i .1 in
+    let s = going-shaped g in
+    let v = next-in (i .0) nz _ (c .before .before .before .before .before .before .lowest-in .ensures .0) in
+    let m = subst (λ y. 1 < y) (c .before .before .before .before .figure .ensures) (c .before .before .before .if1 .taken) in
+    (s .left-long, s .over-long, s .stopped-long, λ ws. going-marked-any g _ ws, going-vcpu g _ v m, m)
+
+tell-requires : tie.Need-tell-requires Inv-loop μ-loop
+tell-requires c κs =
+    let f = c .before .before .before .before .before .before .before .before .before .before .before .before .before .before .before .before .before .before .before .before .before .before .before .before in
+    let a = f .args in
+    let l = c .before .before .before .before .before .before .before .before .before .before .before .before .loop in
+    let i = l .inv in
+    let nz = c .before .before .before .before .before .before .before .before .before .before .before .loop-test .taken in
+    use-room (i .1) _ (c .before .before .before .use-within .ensures (a .waits .now)) (a .on) (a .t) (l .out) (l .w) (next-room (i .0) nz _ (c .before .before .before .before .before .before .before .before .before .before .lowest-in .ensures .0) (f .pre .1))
+
 use-one-requires : tie.Need-use-one-requires Inv-loop μ-loop
 use-one-requires c κs =
-    let i = c .before .before .before .before .before .before .before .loop .inv in
-    let nz = c .before .before .before .before .before .before .loop-test .taken in
-    let v = next-in (i .0) nz _ (c .before .before .before .before .before .lowest-in .ensures .0) in
-    ((v .from, v .to, i .1), next-room (i .0) nz _ (c .before .before .before .before .before .lowest-in .ensures .0) (c .before .before .before .before .before .before .before .before .before .before .before .before .before .before .before .before .before .before .before .pre .1))
+    let i = c .before .before .before .before .before .before .before .before .before .before .loop .inv in
+    let nz = c .before .before .before .before .before .before .before .before .before .loop-test .taken in
+    let l = c .before .before .before .before .before .before .before .before .lowest-in .ensures .0 in
+    let v = next-in (i .0) nz _ l in
+    ((v .from, v .to, i .1), next-room (i .0) nz _ l (c .before .before .before .before .before .before .before .before .before .before .before .before .before .before .before .before .before .before .before .before .before .before .pre .1))
+
+-- where the two ways meet the tick is used
+abbrev Met : Type 0
+Met =
+    lts.Joined1 (
+      idlers-reads.Asked,
+      idlers-reads.Learnt,
+      lowest-in-reads.Asked,
+      lowest-in-reads.Learnt,
+      figure-reads.Asked,
+      figure-reads.Learnt,
+      use-within-reads.Asked,
+      use-within-reads.Learnt,
+      tell-reads.Asked,
+      tell-reads.Learnt,
+      use-one-reads.Asked,
+      use-one-reads.Learnt,
+      without-reads.Asked,
+      without-reads.Learnt,
+    )
+    reads.Pre
+    reads.Post
+    Inv-loop
+    μ-loop
+
+used-now : (c : Met) → (let a = c .before .before .before .before .before .before .before .before .before .before .before .before .before .before .before .before .before .args in let l = c .before .before .before .before .before .loop in UsedOne (a .policy) (a .choice) (a .view .now) (a .times .now) (l .left) (l .over) (l .stopped) (a .holder .now) (a .waits .now) (l .marks) (a .on) (a .t) (c .before .before .before .lowest-in .result) (l .out) (l .w) (c .if1 .left) (c .if1 .over) (c .if1 .stopped) (c .if1 .marks) (c .if1 .out) (c .if1 .w))
+used-now c =
+    let a = c .before .before .before .before .before .before .before .before .before .before .before .before .before .before .before .before .before .args in
+    let l = c .before .before .before .before .before .loop in
+    let v = c .before .before .before .lowest-in .result in
+    ⊎-elim
+    (λ w.
+    used-one (a .policy) (a .choice) (a .view .now) (a .times .now) (l .left) (l .over) (l .stopped) (a .holder .now) (a .waits .now) (l .marks) (a .on) (a .t) v (l .out) (l .w)
+    (within-result (l .inv .1) v (w .4 .ensures (a .waits .now)) (a .on) (a .t) (l .out) (l .w) (subst (λ y. 1 < y) (c .before .figure .ensures) (w .0 .taken)) (w .8 .ensures .0) (w .8 .ensures .1))
+    (w .11) (w .12) (w .13) (w .14) (w .15) (w .16))
+    (λ w.
+    used-one (a .policy) (a .choice) (a .view .now) (a .times .now) (l .left) (l .over) (l .stopped) (a .holder .now) (a .waits .now) (l .marks) (a .on) (a .t) v (l .out) (l .w)
+    (w .6 .ensures) (w .17) (w .18) (w .19) (w .20) (w .21) (w .22))
+    (c .if1 .came)
 
 without-requires : tie.Need-without-requires Inv-loop μ-loop
 without-requires c κs =
-    let i = c .before .before .before .before .before .before .before .before .before .before .before .before .before .before .before .before .before .before .loop .inv in
-    let nz = c .before .before .before .before .before .before .before .before .before .before .before .before .before .before .before .before .before .loop-test .taken in
-    let v = next-in (i .0) nz _ (c .before .before .before .before .before .before .before .before .before .before .before .before .before .before .before .before .lowest-in .ensures .0) in
+    let i = c .before .before .before .before .before .loop .inv in
+    let v = next-in (i .0) (c .before .before .before .before .loop-test .taken) _ (c .before .before .before .lowest-in .ensures .0) in
     (v .from, v .to)
 
 loop-less : tie.Need-loop-less Inv-loop μ-loop
-loop-less c = idling-less (c .before .before .before .before .before .before .before .before .before .before .before .before .before .before .before .before .before .before .before .loop .inv .0) (c .before .before .before .before .before .before .before .before .before .before .before .before .before .before .before .before .before .before .loop-test .taken) _ (c .before .before .before .before .before .before .before .before .before .before .before .before .before .before .before .before .before .lowest-in .ensures .0) (c .without .ensures)
+loop-less c = idling-less (c .before .before .before .before .before .before .loop .inv .0) (c .before .before .before .before .before .loop-test .taken) _ (c .before .before .before .before .lowest-in .ensures .0) (c .without .ensures)
 
 loop-again : tie.Need-loop-again Inv-loop μ-loop
 loop-again c =
-    let i = c .before .before .before .before .before .before .before .before .before .before .before .before .before .before .before .before .before .before .before .loop .inv in
-    let nz = c .before .before .before .before .before .before .before .before .before .before .before .before .before .before .before .before .before .before .loop-test .taken in
-    let u = c .before .before .before .before .before .before .before .before .before .before .before .use-one .ensures in
-    let m = u .1 .0 in
-    let l = c .before .before .before .before .before .before .before .before .before .before .before .before .before .before .before .before .before .lowest-in .ensures .0 in
-    let r = c .before .before .before .before .before .before .before .before .before .before .before .before .before .before .before .before .before .before .before .before .before .before .before .before .before .before .before .before .before .before .before .pre .1 in
-    (idling-more (i .0) nz _ l r m (c .without .ensures), u .0, u .1 .1 ∙ i .2, next-length (i .0) nz _ l r m ∙ i .3)
+    let i = c .before .before .before .before .before .before .loop .inv in
+    let nz = c .before .before .before .before .before .loop-test .taken in
+    let u = used-now (c .before) in
+    let l = c .before .before .before .before .lowest-in .ensures .0 in
+    let r = c .before .before .before .before .before .before .before .before .before .before .before .before .before .before .before .before .before .before .pre .1 in
+    (idling-more (i .0) nz _ l r (u .made) (c .without .ensures), u .going, u .done-same ∙ i .2, next-length (i .0) nz _ l r (u .made) ∙ i .3)
 
 same-length : tie.Need-same-length Inv-loop μ-loop
 same-length c = going-shaped (c .before .loop .inv .1) .left-long ∙ sym (going-shaped (c .before .before .before .before .before .before .before .before .before .before .before .before .before .pre .0 .2) .left-long)
@@ -87,6 +156,9 @@ idle-uses-spec =
     idlers-requires
     loop-holds
     lowest-in-requires
+    (λ c κs. search needs)
+    use-within-requires
+    tell-requires
     use-one-requires
     without-requires
     loop-less

@@ -24,6 +24,10 @@ returns-5 : tie.Need-returns-5
 unfolding replyTo
 returns-5 c = rw (c .before .before .q4 .given .1, c .section-response .ensures)
 
+returns-6 : tie.Need-returns-6
+unfolding replyTo
+returns-6 c = rw (c .before .before .q5 .given .1, c .run-of .ensures)
+
 pub reply-on-spec : {M : Type 1} → statement M
 reply-on-spec =
     tie.close
@@ -38,8 +42,11 @@ reply-on-spec =
     (λ c κs. search needs)
     (λ c. search needs)
     (λ c κs. search needs)
+    (λ c. search needs)
+    (λ c κs. search needs)
     returns
     returns-2
     returns-3
     returns-4
-    returns-5)
+    returns-5
+    returns-6)

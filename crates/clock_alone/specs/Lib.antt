@@ -1,0 +1,5 @@
+pub mod Tests
+pub mod Same
+pub mod Turns
+pub mod Picks
+pub mod Beside

@@ -1,0 +1,6 @@
+pub mod Strides
+pub mod Reaches
+pub mod Losing
+pub mod Spending
+pub mod Putting
+pub mod AllSpending

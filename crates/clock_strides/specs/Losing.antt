@@ -1,0 +1,172 @@
+-- Walks over a set of VCPUs, from the lowest up.
+use Prim.Native.Nat.{ℕ, suc, _+_, _-_, _<_, _≤_}
+use mathlib.Core.Path.{_≡_, refl, sym, ap, ap₂, subst, _∙_}
+use mathlib.Core.Bool.{Bool, true, false, _&&_, _||_, not}
+use mathlib.Core.List.{List}
+use mathlib.Core.Logic.{_⊎_, ⊎-elim}
+use native.Mathlib.Omega.{arith}
+use borrow.Author.Tests.{eqb-true, eq-eqb, ne-eqb}
+use lib.Dec.{eqb, ltb}
+use lib.ListN.{length, getD, set, length-set}
+use lib.Seq.{getD-set-same, getD-set-other}
+use Rattle.laws.specs.Choice.{if_then_else_}
+use Rattle.laws.specs.BoolLaws.{both, both-left, both-right, miss-right, clash, is-false, both-ways, same-or-not}
+use Rattle.laws_picks.specs.Picks.{lowest}
+use Rattle.laws_picks.specs.PickLaws.{lowest-le, lowest-passes, lowest-zero}
+use Rattle.plan.specs.declared.Policy.{Policy}
+use Rattle.board_rules.specs.declared.Board.{Board}
+use Rattle.board_rules.specs.Board.{leftOf, underP}
+use Rattle.board_keeps.specs.Fair.{InV}
+use Rattle.clock_sets.specs.Sets.{inSet, With, Without}
+use Rattle.clock_sets.specs.SetLaws.{some-vcpu, in-none}
+use Rattle.clock_rules.specs.Clock.{Timing, idles, isOn, hasReady}
+use Rattle.clock_marks.specs.Marks.{doneIn, Mirrors}
+use Rattle.clock_picks.specs.Picking.{Idlers}
+use Rattle.clock_plains.specs.Plains.{loses}
+use Rattle.clock_strides.specs.Strides.{Idles, Loses, Lost, Within}
+
+module _ {s : ℕ} (is-set : s < 65536) (nz : s ≡ 0 → ⊥) {v : ℕ} (e : v ≡ lowest 16 (inSet s)) where
+  some : 0 < lowest 16 (inSet s)
+  some =
+      let z : lowest 16 (inSet s) ≡ 0 → ⊥ = λ q. clash (some-vcpu s is-set ∙ ap not (ne-eqb s 0 nz)) (lowest-zero 16 (inSet s) .1 q) in
+      omega arith
+
+  -- the lowest is a name
+  pub next-in : InV v
+  next-in = record { from = omega (arith, some); to = omega (arith, lowest-le 16 (inSet s)) }
+
+  -- of the set
+  pub is-in : inSet s v ≡ true
+  is-in = ap (inSet s) e ∙ lowest-passes 16 (inSet s) some
+
+  -- the set without it is smaller
+  pub set-less : {s′ : ℕ} → Without s v s′ → s′ < s
+  set-less {s′} q =
+      let l = q .within in
+      let ne : s′ ≡ s → ⊥ = λ z. clash (ap (λ x. inSet x v) z ∙ is-in) (q .names v (next-in .from) (next-in .to) ∙ miss-right (inSet s v) _ (ap not (eq-eqb v v refl))) in
+      omega arith
+
+-- a set without v has the others as before
+still-out : {s v s′ w : ℕ} → Without s v s′ → InV w → (w ≡ v → ⊥) → inSet s′ w ≡ inSet s w
+still-out {s} {v} {s′} {w} q i ne = q .names w (i .from) (i .to) ∙ keeps (inSet s w) (eqb w v) (ne-eqb w v ne)
+  where
+    keeps : (a b : Bool) → b ≡ false → (a && not b) ≡ a
+    keeps true b e = ap not e
+    keeps false b e = refl
+
+-- and not v
+now-out : {s v s′ : ℕ} → Without s v s′ → InV v → inSet s′ v ≡ false
+now-out {s} {v} q i = q .names v (i .from) (i .to) ∙ miss-right (inSet s v) _ (ap not (eq-eqb v v refl))
+
+-- BOUNDED by each of s₀ that is no longer in s
+pub record Bounded (ls : List ℕ) (s₀ k₀ s k : ℕ) : Type 0 where
+  pub is-set : s < 65536
+  pub to : k ≤ k₀
+  pub bound : (w : ℕ) → InV w → inSet s₀ w ≡ true → inSet s w ≡ false → 0 < k → k < getD ls (w - 1) 0
+
+pub bounded-first : (ls : List ℕ) (s k : ℕ) → s < 65536 → Bounded ls s k s k
+bounded-first ls s k l = record { is-set = l; to = omega arith; bound = λ w i e f. absurd (clash e f) }
+
+module _ {ls : List ℕ} {s₀ k₀ s k : ℕ} (g : Bounded ls s₀ k₀ s k) where
+  pub bounded-all : s ≡ 0 → (k ≤ k₀) × Within ls s₀ k
+  bounded-all z = (g .to, λ w i e. g .bound w i e (ap (λ x. inSet x w) z ∙ in-none w))
+
+  pub bounded-more : {v s′ k′ : ℕ} → Without s v s′ → k′ ≤ getD ls (v - 1) 0 - 1 → k′ ≤ k → Bounded ls s₀ k₀ s′ k′
+  bounded-more {v} {s′} {k′} q a l = record {
+    is-set = let y = q .within in let z = g .is-set in omega arith;
+    to = let y = g .to in omega arith;
+    bound = λ w i e f h.
+        ⊎-elim (λ z. subst (λ y. k′ < getD ls (y - 1) 0) (sym z) (omega arith))
+        (λ ne. let y = g .bound w i e (sym (still-out q i ne) ∙ f) (omega arith) in omega arith)
+        (same-or-not w v);
+  }
+
+-- LOSING: each of s₀ that is no longer in s has lost k
+pub record Losing (ls : List ℕ) (s₀ k s : ℕ) (ls′ : List ℕ) : Type 0 where
+  pub is-set : s < 65536
+  pub long : length ls′ ≡ length ls
+  pub within : (w : ℕ) → InV w → inSet s w ≡ true → inSet s₀ w ≡ true
+  pub left : (w : ℕ) → InV w → getD ls′ (w - 1) 0 ≡ (if inSet s₀ w && not (inSet s w) then getD ls (w - 1) 0 - k else getD ls (w - 1) 0)
+
+pub losing-first : (ls : List ℕ) (s k : ℕ) → s < 65536 → Losing ls s k s ls
+losing-first ls s k l = record {
+  is-set = l;
+  long = refl;
+  within = λ w i e. e;
+  left = λ w i. ap (λ (t : Bool). if t then getD ls (w - 1) 0 - k else getD ls (w - 1) 0) (sym (never (inSet s w)));
+}
+  where
+    never : (a : Bool) → (a && not a) ≡ false
+    never true = refl
+    never false = refl
+
+module _ {ls : List ℕ} {s₀ k s : ℕ} {ls′ : List ℕ} (g : Losing ls s₀ k s ls′) where
+  pub losing-all : s ≡ 0 → Lost ls s₀ k ls′
+  losing-all z = record {
+    long = g .long;
+    left = λ w i.
+        g .left w i ∙ ap (λ (t : Bool). if t then getD ls (w - 1) 0 - k else getD ls (w - 1) 0) (ap (λ (t : Bool). inSet s₀ w && not t) (ap (λ x. inSet x w) z ∙ in-none w) ∙ and-true (inSet s₀ w));
+  }
+    where
+      and-true : (a : Bool) → (a && true) ≡ a
+      and-true true = refl
+      and-true false = refl
+
+  module _ (nz : s ≡ 0 → ⊥) {v : ℕ} (e : v ≡ lowest 16 (inSet s)) where
+    -- the lowest has lost nothing yet
+    next-left : getD ls′ (v - 1) 0 ≡ getD ls (v - 1) 0
+    next-left =
+        g .left v (next-in (g .is-set) nz e)
+        ∙ ap (λ (t : Bool). if t then getD ls (v - 1) 0 - k else getD ls (v - 1) 0) (miss-right (inSet s₀ v) _ (ap not (is-in (g .is-set) nz e)))
+
+    pub losing-more : {s′ j y : ℕ} → length ls ≡ 16 → Without s v s′ → j ≡ v - 1 → y ≡ getD ls′ j 0 - k → Losing ls s₀ k s′ (set ls′ j y)
+    losing-more {s′} {j} {y} long q at f =
+        let i = next-in (g .is-set) nz e in
+        let l = i .to in
+        let m = g .long in
+        record {
+          is-set = let a = q .within in let z = g .is-set in omega arith;
+          long = length-set ls′ j y ∙ g .long;
+          within = λ w a h. g .within w a (both-left (inSet s w) _ (sym (q .names w (a .from) (a .to)) ∙ h));
+          left = λ w a.
+              ⊎-elim
+              (λ z. subst (λ u. getD (set ls′ j y) (u - 1) 0 ≡ (if inSet s₀ u && not (inSet s′ u) then getD ls (u - 1) 0 - k else getD ls (u - 1) 0)) (sym z)
+              (ap (λ u. getD (set ls′ j y) u 0) (sym at) ∙ getD-set-same ls′ j y 0 (let u = i .from in omega arith) ∙ f ∙ ap (λ u. getD ls′ u 0 - k) at ∙ ap (λ u. u - k) next-left
+              ∙ ap (λ (t : Bool). if t then getD ls (v - 1) 0 - k else getD ls (v - 1) 0) (sym (both (inSet s₀ v) _ (g .within v i (is-in (g .is-set) nz e)) (ap not (now-out q i))))))
+              (λ ne.
+              getD-set-other ls′ j (w - 1) y 0 (λ z. ne (let u = i .from in let t = a .from in omega arith)) ∙ g .left w a
+              ∙ ap (λ (t : Bool). if inSet s₀ w && not t then getD ls (w - 1) 0 - k else getD ls (w - 1) 0) (sym (still-out q a ne)))
+              (same-or-not w v);
+        }
+
+-- WHO IDLES under P
+pub idles-p : {p : Policy} {k : List ℕ} {c r : ℕ} → underP p ≡ true → Idlers k c r → Idles p k c r
+idles-p {p} {k} {c} {r} e h = record {
+  are = λ T x b f m w i.
+      h T x b m w i ∙ ap (λ y. y && (isOn T c w && (ltb 0 (leftOf b w) && not (hasReady T b (doneIn k) w)))) (sym (ap underP f ∙ e));
+}
+
+-- and under D
+pub idles-d : {p : Policy} {k : List ℕ} {c r : ℕ} → underP p ≡ false → r ≡ 0 → Idles p k c r
+idles-d {p} {k} {c} {r} e z = record {
+  are = λ T x b f m w i.
+      ap (λ y. inSet y w) z ∙ in-none w ∙ ap (λ y. y && (isOn T c w && (ltb 0 (leftOf b w) && not (hasReady T b (doneIn k) w)))) (sym (ap underP f ∙ e));
+}
+
+-- WHO LOSES: nobody was picked
+pub loses-none : {p : Policy} {k : List ℕ} {c v r : ℕ} → v ≡ 0 → Idles p k c r → Loses p k c v r
+loses-none {p} {k} {c} {v} z h = record {
+  are = λ T x b f m w i. h .are T x b f m w i ∙ ap (λ (t : Bool). t || idles T c b (doneIn k) w) (sym (ne-eqb w v (λ y. let u = i .from in omega arith)));
+}
+
+-- v was
+pub loses-some : {p : Policy} {k : List ℕ} {c v s r : ℕ} → Idles p k c s → With s v r → Loses p k c v r
+loses-some {p} {k} {c} {v} {s} h q = record {
+  are = λ T x b f m w i. q .names w (i .from) (i .to) ∙ ap (λ (t : Bool). t || eqb w v) (h .are T x b f m w i) ∙ swap (idles T c b (doneIn k) w) (eqb w v);
+}
+  where
+    swap : (x y : Bool) → (x || y) ≡ (y || x)
+    swap true true = refl
+    swap true false = refl
+    swap false true = refl
+    swap false false = refl

@@ -1,0 +1,5 @@
+pub mod Ticks
+pub mod TickLaws
+pub mod RunLaws
+pub mod ListLaws
+pub mod StrideLaws
