@@ -324,6 +324,24 @@ pub fn clock_text_of(plan: &[u8], input: &[u8], seen: &mut dyn FnMut(Step)) -> V
     out
 }
 
+/// How the run ends, as the function for C answers it: what it returns, and where that is 1 the tick, v and n.
+pub fn end_text(plan: &[u8], horizon: u64) -> Vec<u8> {
+    if plan.len() > INPUT_BYTES {
+        return format!("-{}\n", TOO_LONG.number).into_bytes();
+    }
+    let plan = match read(plan) {
+        Ok(plan) => plan,
+        Err(refusal) => return format!("-{}\n", refusal.number).into_bytes(),
+    };
+    if !(1..=TICKS).contains(&horizon) {
+        return b"-3\n".to_vec();
+    }
+    match run(&plan, horizon, &mut |_| {}) {
+        Outcome::Ended => b"0\n".to_vec(),
+        Outcome::Missed { tick, v, n } => format!("1\t{}\t{}\t{}\n", tick, v, n).into_bytes(),
+    }
+}
+
 /// Exactly what program `clock` prints.
 pub fn clock_text(plan: &[u8], input: &[u8]) -> Vec<u8> {
     clock_text_of(plan, input, &mut |_| {})

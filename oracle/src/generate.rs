@@ -8,7 +8,7 @@ mod shapes;
 
 pub use chance::Chance;
 pub use happenings::{board_case, BoardCase};
-pub use runs::{clock_case, clock_plan, ClockCase};
+pub use runs::{clock_case, clock_plan, run_case, ClockCase, RunCase};
 
 use crate::plan::Plan;
 

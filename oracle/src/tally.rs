@@ -178,6 +178,17 @@ impl Tally {
         }
     }
 
+    /// A plan and how its run ends, as the function for C answers it.
+    pub fn add_end(&mut self, plan: &[u8], end: &[u8]) {
+        let key = match end.first() {
+            Some(b'0') => "ended",
+            Some(b'1') => "missed",
+            _ => "plan, size or horizon refused",
+        };
+        one_more(&mut self.runs, key.to_string());
+        self.add_plan(plan);
+    }
+
     /// Is the plan accepted?
     fn add_plan(&mut self, plan: &[u8]) -> bool {
         if plan.len() > INPUT_BYTES {
@@ -271,6 +282,9 @@ impl fmt::Display for Tally {
         if !self.runs.is_empty() {
             let share = |n: u64| 100.0 * n as f64 / self.steps.max(1) as f64;
             writeln!(f, "  runs: {}", counted(&self.runs))?;
+            if self.steps == 0 {
+                return Ok(());
+            }
             writeln!(f, "  events of runs: {}", self.steps)?;
             for (deed, n) in &self.deeds {
                 writeln!(f, "    {}: {} ({:.1}%)", deed, n, share(*n))?;

@@ -1,6 +1,6 @@
 -- What an event writes into lent lists is the board after it, where no mark was due and lacking.
 use Prim.Native.Nat.{ℕ, _-_, _<_}
-use mathlib.Core.Path.{_≡_, refl, sym, ap, ap₂, subst, _∙_}
+use mathlib.Core.Path.{_≡_, refl, sym, ap, ap₂, _∙_}
 use mathlib.Core.List.{List}
 use mathlib.Core.Bool.{Bool, true, false, _||_, _&&_, not, or-false}
 use native.Mathlib.Omega.{arith}
@@ -15,19 +15,18 @@ use Rattle.plan.specs.declared.OverrunChoice.{OverrunChoice}
 use Rattle.plan.specs.declared.Fault.the-variants.{Clear}
 use Rattle.plan.specs.JudgeLaws.{clear-test}
 use Rattle.board_seats.specs.Seats.{isGlobal, budgetOf, overrunOf, hasVcpu}
-use Rattle.board_supply.specs.Supplies.{nextMark, budgetAfter, overrunAfter, askFaultAt, underP, reserve, idle, useFaultAt}
-use Rattle.board_supply.specs.SupplyLaws.{Known, known-range, vcpu-range, unless-yes, fits-left}
+use Rattle.board_supply.specs.Supplies.{nextMark, markBy, budgetAfter, overrunAfter, askFaultAt, underP, reserve, idle, useFaultAt}
+use Rattle.board_supply.specs.SupplyLaws.{Known, known-range, vcpu-range, unless-yes, fits-left, mark-known}
 use Rattle.board_turns.specs.Turns.{mayHaveAt}
 use Rattle.board_rules.specs.Facts.{Facts}
 use Rattle.board_rules.specs.View.{factsIn}
 use Rattle.board_rules.specs.Names.{InV, InM, in-m, in-v}
-use Rattle.board_rules.specs.Board.{Board, BoardAnswer, Event, Ask, Outcome, answered, askFault, isBusy, supply, passes, mayHave, step, Next, Left, Granted, Waits, Freed, seat, waitOf, nextOf, holdsGlobal, mustStop, withLeft, withStopped, handedTo, grantedLocal, nextGlobal, nextLocal, used, topped, asked, freedGlobal, freedLocal, Use}
+use Rattle.board_rules.specs.Board.{Board, Ask, answered, askFault, isBusy, supply, passes, mayHave, step, Next, Left, Granted, Waits, Freed, seat, waitOf, nextOf, holdsGlobal, mustStop, withLeft, withStopped, handedTo, grantedLocal, nextGlobal, nextLocal, used, topped, asked, freedGlobal, freedLocal, Use}
 use Rattle.board_rules.specs.BoardLaws.{settled-in, next-some, use-by}
 use Rattle.plan.specs.declared.Refusal.the-variants.{Unknown}
 use Rattle.board_walks.specs.Walks as walks
 use Rattle.board_rules.specs.Settle.{Marked, settledAt, completeAt}
 use Rattle.board_rules.specs.SettleEvents.{OwnHeld}
-use Rattle.board_rules.specs.Marked.{step-marked}
 use Rattle.board_rules.specs.CompleteLaws.{complete-use, complete-top, complete-grant, complete-wait, complete-global, complete-local}
 use Rattle.board_rules.specs.Lent.{boardOf, outcomeOf}
 
@@ -35,10 +34,6 @@ use Rattle.board_rules.specs.Lent.{boardOf, outcomeOf}
 pub marked-lent : (F : Facts) (b : Board) → Marked F b → (os ws : List ℕ) → Marked F (boardOf (b .left) os (b .stopped) (b .holder) ws)
 unfolding mustStop holdsGlobal
 marked-lent F b k os ws = k
-
--- a mark stands where it is due on the lists at exit too
-pub lent-marked : (F : Facts) (b : Board) (e : Event) {a : BoardAnswer} {c : Board} → Marked F b → outcomeOf a c ≡ step F b e → Marked F c
-lent-marked F b e k q = subst (Marked F) (sym (ap (λ (o : Outcome). o .board) q)) (step-marked F b k e)
 
 -- the mark of v, written
 mark-told : (p : Policy) (c : OverrunChoice) (t : List ℕ) (b : Board) (v : ℕ) {s : List Bool} →
@@ -109,6 +104,19 @@ module _ (p : Policy) (c : OverrunChoice) (t l o : List ℕ) (s : List Bool) (h 
       where
         over-still : getD o i 0 ≡ getD o i 0 - (1 - getD l (v - 1) 0)
         over-still = omega arith
+
+  -- `use v 1` that has no fault: the VCPU is in the plan, and its mark is settled by what is known of who holds a global mutex
+  module _ (v i : ℕ) (f : useFaultAt c t l o s h v 1 ≡ Clear) where
+    sure-vcpu : hasVcpu t v ≡ true
+    sure-vcpu = clear-test _ _ _ f
+
+    pub sure-used : length l ≡ maxV → length o ≡ maxV → i ≡ v - 1 → {b d : ℕ} → b ≡ budgetAfter l v 1 → d ≡ overrunAfter l o v 1 →
+        {held mark : Bool} → held ≡ walks.holdsGlobal t h v → mark ≡ markBy p (set l i b) s v held →
+        outcomeOf (Left b d) (boardOf (set l i b) (set o i d) (set s i mark) h w) ≡ step (factsIn p c t) (boardOf l o s h w) (Use v 1)
+    sure-used nl nd e {b} eb ed eh em =
+        let r = vcpu-range t v sure-vcpu in
+        use-told v 1 i (in-v (r .0) (r .1)) nl nd e eb ed (ap₂ (set s) e (em ∙ mark-known p t (set l i b) s h v sure-vcpu eh))
+        ∙ sym (use-by p c t (boardOf l o s h w) v 1 f)
 
   -- `top v`
   pub top-told : (v i : ℕ) → InV v → length l ≡ maxV → length o ≡ maxV → i ≡ v - 1 → {b d : ℕ} → b ≡ budgetOf t v → d ≡ overrunOf t v →

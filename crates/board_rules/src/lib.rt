@@ -13,7 +13,8 @@ ghost use lib.ListN.{length, getD, set};
 ghost use Rattle.plan.specs.declared.Policy.{Policy};
 ghost use Rattle.plan.specs.declared.OverrunChoice.{OverrunChoice};
 ghost use Rattle.board_seats.specs.Seats.{seat, hasVcpu, isGlobal};
-ghost use Rattle.board_supply.specs.Supplies.{nextMark};
+ghost use Rattle.board_supply.specs.Supplies.{nextMark, useFaultAt, freeFaultAt};
+ghost use Rattle.board_walks.specs.Walks.{holdsGlobal};
 ghost use Rattle.board_turns.specs.Turns.{waiterV};
 ghost use Rattle.board_rules.specs.View.{factsIn};
 ghost use Rattle.board_rules.specs.Settle.{Marked};
@@ -365,6 +366,26 @@ impl Board {
         }
     }
 
+    // `free v n m` on lent arrays, of a free that has no fault: m goes to who is next.
+    pub fn free_sure(
+        policy: Policy,
+        choice: OverrunChoice,
+        view: &[u64],
+        left: &[u64],
+        stopped: &mut [bool],
+        holder: &mut [u16],
+        waits: &mut [u8],
+        v: u64,
+        n: u64,
+        m: u64,
+    ) -> BoardAnswer
+        requires { ⌜ (length (now stopped) ≡ 16) × (length (now waits) ≡ 128) × ((os : List ℕ) → Marked (factsIn policy choice (now view)) (boardOf (now left) os (now stopped) (now holder) (now waits))) ⌝ }
+        requires { ⌜ freeFaultAt (now view) (now holder) v n m ≡ Fault.Clear ⌝ }
+        ensures { λ r. ⌜ ((os : List ℕ) → outcomeOf r (boardOf (now (left .entry)) os (now (stopped .exit)) (now (holder .exit)) (now (waits .exit))) ≡ step (factsIn policy choice (now (view .entry))) (boardOf (now (left .entry)) os (now (stopped .entry)) (now (holder .entry)) (now (waits .entry))) (Event.Free v n m)) ⌝ }
+    {
+        freed(policy, view, left, stopped, holder, waits, v, m)
+    }
+
     // `free v n m` on lent arrays: the waiting marks are walked only where somebody waits for m.
     pub fn free_in(
         policy: Policy,
@@ -383,9 +404,46 @@ impl Board {
     {
         let fault = board_supply::free_fault(view, holder, v, n, m);
         match fault {
-            Fault::Clear => freed(policy, view, left, stopped, holder, waits, v, m),
+            Fault::Clear => Board::free_sure(
+                policy,
+                choice,
+                view,
+                left,
+                stopped,
+                holder,
+                waits,
+                v,
+                n,
+                m,
+            ),
             Fault::Bad(k) => BoardAnswer::Refused(k),
         }
+    }
+
+    // `use v 1` on lent arrays, of a use that has no fault, where `holds` says whether the tasks of v hold a global mutex: no mutex is walked over.
+    pub fn use_sure(
+        policy: Policy,
+        choice: OverrunChoice,
+        view: &[u64],
+        left: &mut [u64],
+        over: &mut [u64],
+        stopped: &mut [bool],
+        holder: &[u16],
+        v: u64,
+        holds: bool,
+    ) -> BoardAnswer
+        requires { ⌜ (length (now left) ≡ 16) × (length (now over) ≡ 16) × (length (now stopped) ≡ 16) × ((ws : List ℕ) → Marked (factsIn policy choice (now view)) (boardOf (now left) (now over) (now stopped) (now holder) ws)) ⌝ }
+        requires { ⌜ (useFaultAt choice (now view) (now left) (now over) (now stopped) (now holder) v 1 ≡ Fault.Clear) × (holds ≡ holdsGlobal (now view) (now holder) v) ⌝ }
+        ensures { λ r. ⌜ ((ws : List ℕ) → outcomeOf r (boardOf (now (left .exit)) (now (over .exit)) (now (stopped .exit)) (now (holder .entry)) ws) ≡ step (factsIn policy choice (now (view .entry))) (boardOf (now (left .entry)) (now (over .entry)) (now (stopped .entry)) (now (holder .entry)) ws) (Event.Use v 1)) ⌝ }
+    {
+        let i = sub(v, 1) as usize;
+        let b = board_supply::budget_after(left, v, 1);
+        let o = board_supply::overrun_after(left, over, v, 1);
+        left[i] = b;
+        over[i] = o;
+        let mark = board_supply::mark_by(policy, left, stopped, v, holds);
+        stopped[i] = mark;
+        BoardAnswer::Left { b, o }
     }
 
     // `use v 1` on lent arrays, where more than one tick is left of the budget of v: no mark changes then.

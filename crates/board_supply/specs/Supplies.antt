@@ -42,6 +42,10 @@ idle t ls hs v = hasVcpu t v && (eqb (getD ls (v - 1) 0) 0 && not (holdsGlobal t
 abbrev pub nextMark : Policy → List ℕ → List ℕ → List Bool → List ℕ → ℕ → Bool
 nextMark p t ls ss hs v = getD ss (v - 1) false || (underP p && idle t ls hs v)
 
+-- the mark of a VCPU of the plan, where h says whether its tasks hold a global mutex
+abbrev pub markBy : Policy → List ℕ → List Bool → ℕ → Bool → Bool
+markBy p ls ss v h = getD ss (v - 1) false || (underP p && (eqb (getD ls (v - 1) 0) 0 && not h))
+
 -- `use v t`: 10, 3, 12, 15; after 10, at the supply s
 abbrev pub tickFault : ℕ → ℕ → Fault
 tickFault s x = unless (within x 1 maxTicks) Range (unless (not (eqb s 0)) Asleep (unless (leb x s) Supply Clear))

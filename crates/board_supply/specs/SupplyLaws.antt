@@ -2,7 +2,7 @@
 use Prim.Native.Nat.{ℕ, _+_, _-_, _≤_, _<_, min}
 use mathlib.Core.Path.{_≡_, refl, sym, ap, ap₂, _∙_}
 use mathlib.Core.List.{List}
-use mathlib.Core.Bool.{Bool, true, false, _&&_, not, or-false, false≢true}
+use mathlib.Core.Bool.{Bool, true, false, _&&_, _||_, not, or-false, false≢true}
 use native.Mathlib.Omega.{arith}
 use borrow.Author.Tests.{eq-eqb, ne-eqb, eqb-true, eqb-false, le-leb, lt-leb, leb-true, leb-false}
 use lib.Dec.{eqb, ltb, leb}
@@ -12,6 +12,7 @@ use Rattle.laws.specs.Choice.{if_then_else_}
 use Rattle.plan.specs.Limits.{maxTicks}
 use Rattle.plan.specs.Refusals.{unless}
 use Rattle.plan.specs.Rules.{within}
+use Rattle.plan.specs.declared.Policy.{Policy}
 use Rattle.plan.specs.declared.Policy.the-variants.{Deferrable}
 use Rattle.plan.specs.declared.OverrunChoice.{OverrunChoice}
 use Rattle.plan.specs.declared.OverrunChoice.the-variants.{WithOverrun, WithoutOverrun}
@@ -22,7 +23,7 @@ use Rattle.plan.specs.RuleLaws.{in-range}
 use Rattle.board_seats.specs.Seats.{isV, isN, isM, hasVcpu, hasTask, hasMutex, taskAt, ownerAt}
 use Rattle.board_seats.specs.SeatLaws.{Ranges, ranges}
 use Rattle.board_walks.specs.Walks.{holdsGlobal}
-use Rattle.board_supply.specs.Supplies.{reserve, supplyAt, tickFault, idle, nextMark, known}
+use Rattle.board_supply.specs.Supplies.{reserve, supplyAt, tickFault, underP, idle, nextMark, markBy, known}
 
 -- A SUPPLY CUT OFF at the ticks of an event is as much asleep
 pub asleep-capped : (s : ℕ) → eqb (min s maxTicks) 0 ≡ eqb s 0
@@ -132,3 +133,9 @@ known-range t v n m e =
 -- UNDER D no VCPU is stopped: a mark stays
 pub mark-stays : (t ls : List ℕ) (ss : List Bool) (hs : List ℕ) (v : ℕ) → getD ss (v - 1) false ≡ nextMark Deferrable t ls ss hs v
 mark-stays t ls ss hs v = sym (or-false (getD ss (v - 1) false))
+
+-- A MARK SETTLED BY WHAT IS KNOWN of who holds a global mutex is the one that is due
+pub mark-known : (p : Policy) (t ls : List ℕ) (ss : List Bool) (hs : List ℕ) (v : ℕ) {h : Bool} → hasVcpu t v ≡ true → h ≡ holdsGlobal t hs v → markBy p ls ss v h ≡ nextMark p t ls ss hs v
+mark-known p t ls ss hs v e k =
+    ap (λ x. getD ss (v - 1) false || (underP p && (eqb (getD ls (v - 1) 0) 0 && not x))) k
+    ∙ ap (λ x. getD ss (v - 1) false || (underP p && (x && (eqb (getD ls (v - 1) 0) 0 && not (holdsGlobal t hs v))))) (sym e)

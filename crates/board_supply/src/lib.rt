@@ -17,7 +17,7 @@ ghost use Rattle.laws.specs.Choice.{if_then_else_};
 ghost use Rattle.laws.specs.Range.{allTo};
 ghost use Rattle.plan.specs.Limits.{maxTicks};
 ghost use Rattle.board_walks.specs.Walks.{holdsGlobal};
-ghost use Rattle.board_supply.specs.Supplies.{reserve, supplyAt, underP, idle, nextMark, tickFault, useFaultAt, budgetAfter, overrunAfter, known, busyAt, taskFault, askFaultAt, freeFaultAt, figuresGood, markGoodAt, vcpuGoodAt};
+ghost use Rattle.board_supply.specs.Supplies.{reserve, supplyAt, underP, idle, nextMark, tickFault, useFaultAt, budgetAfter, overrunAfter, known, busyAt, taskFault, askFaultAt, freeFaultAt, figuresGood, markGoodAt, markBy, vcpuGoodAt};
 
 // a + b, as far as the ticks of an event go.
 fn capped(a: u64, b: u64) -> u64
@@ -165,6 +165,15 @@ pub fn mark_after(
         Policy::Periodic => next_mark(view, left, stopped, holder, v),
         Policy::Deferrable => board_seats::mark(stopped, v),
     }
+}
+
+// The mark of v when an event is complete, where `holds` says whether its tasks hold a global mutex: no mutex is walked over.
+pub fn mark_by(policy: Policy, left: &[u64], stopped: &[bool], v: u64, holds: bool) -> bool
+    ensures { λ r. ⌜ r ≡ markBy policy (now (left .entry)) (now (stopped .entry)) v holds ⌝ }
+{
+    let empty = board_seats::figure(left, v) == 0;
+    let due = both(under_p(policy), both(empty, no(holds)));
+    either(board_seats::mark(stopped, v), due)
 }
 
 // Task (v, n) holds or waits.

@@ -22,6 +22,7 @@ use Rattle.records_board.proofs as records_board
 use Rattle.log_answers.proofs as log_answers
 use Rattle.clock_tables.proofs as clock_tables
 use Rattle.desk.proofs as desk
+use Rattle.desk_clock.proofs as desk_clock
 
 module _ {M : Type 1} (𝓤 : URA M) (H : Heap 𝓤) (A : Atoms 𝓤) (mem : Memory → SProp 𝓤) (run : Routine → Fun 𝓤) where
   -- READING (read_plan, records_read, read_lines, text_scan)
@@ -105,11 +106,11 @@ module _ {M : Type 1} (𝓤 : URA M) (H : Heap 𝓤) (A : Atoms 𝓤) (mem : Mem
   pub answers-once : Once 𝓤 log_answers.answers.ended (log_answers.answers.clauses 𝓤 H A mem run)
   answers-once κs a g h x y = of-two 𝓤 (λ p q i. (once (p .0) (q .0) i, (tt, (tt, (tt, (tt, (tt, (tt, (once (p .1) (q .1) i, tt)))))))))
 
-  -- THE PLAN ON A CLOCK (clock_tables; of a plan in bytes: desk)
+  -- THE PLAN ON A CLOCK (clock_tables; of a plan in bytes: desk_clock)
   pub run-of-once : Sure 𝓤 clock_tables.run_of.ended (clock_tables.run_of.clauses 𝓤 H A mem run)
   run-of-once = (λ κs a. free 𝓤, λ κs a g h x y. of-one 𝓤 (λ p q i. (once p q i, x .1)))
 
-  pub run-bytes-once : Sure 𝓤 desk.run_bytes.ended (desk.run_bytes.clauses 𝓤 H A mem run)
+  pub run-bytes-once : Sure 𝓤 desk_clock.run_bytes.ended (desk_clock.run_bytes.clauses 𝓤 H A mem run)
   run-bytes-once = (λ κs a. free 𝓤, λ κs a g h x y. of-one 𝓤 (λ p q i. (once p q i, x .1)))
 
   -- THE PROGRAMS' TEXTS (desk), into a lent buffer; of the functions for C: exports/proofs/Once

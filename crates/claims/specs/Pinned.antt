@@ -34,7 +34,7 @@ use Rattle.board_rules.specs.declared.BoardAnswer.{BoardAnswer}
 use Rattle.board_rules.specs.Events.{boardText}
 use Rattle.board_tables.specs.declared.FreshBoard.{FreshBoard}
 use Rattle.board_tables.specs.Entered.{freshFor, stepFor}
-use Rattle.desk.specs.Ran.{runInto}
+use Rattle.desk_clock.specs.Ran.{runInto}
 use Rattle.exports_codes.specs.Exported.{exported, runExported, missedLeft}
 use Rattle.text_scan.proofs as text_scan
 use Rattle.given_test.proofs as given_test
@@ -49,6 +49,7 @@ use Rattle.board_tables.proofs as board_tables
 use Rattle.log_answers.proofs as log_answers
 use Rattle.clock_tables.proofs as clock_tables
 use Rattle.desk.proofs as desk
+use Rattle.desk_clock.proofs as desk_clock
 use Rattle.exports.proofs as exports
 
 module _ {M : Type 1} (𝓤 : URA M) (H : Heap 𝓤) (A : Atoms 𝓤) (mem : Memory → SProp 𝓤) (run : Routine → Fun 𝓤) where
@@ -227,7 +228,7 @@ module _ {M : Type 1} (𝓤 : URA M) (H : Heap 𝓤) (A : Atoms 𝓤) (mem : Mem
   pub run-of-stated : clock_tables.run_of.spec 𝓤 H A mem run ≡ closing 𝓤 H A clock_tables.run_of.ended (clock_tables.run_of.clauses 𝓤 H A mem run)
   run-of-stated = refl
 
-  pub run-bytes-stated : desk.run_bytes.spec 𝓤 H A mem run ≡ closing 𝓤 H A desk.run_bytes.ended (desk.run_bytes.clauses 𝓤 H A mem run)
+  pub run-bytes-stated : desk_clock.run_bytes.spec 𝓤 H A mem run ≡ closing 𝓤 H A desk_clock.run_bytes.ended (desk_clock.run_bytes.clauses 𝓤 H A mem run)
   run-bytes-stated = refl
 
   pub verdict-text-stated : desk.verdict_text.spec 𝓤 H A mem run ≡ closing 𝓤 H A desk.verdict_text.ended (desk.verdict_text.clauses 𝓤 H A mem run)

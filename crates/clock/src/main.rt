@@ -12,13 +12,13 @@ ghost use Prim.Native.Nat.{_≤_};
 ghost use lib.ListN.{length};
 ghost use Rattle.plan_tables.specs.Given.{isGiven};
 ghost use Rattle.plan_tables.specs.Layout.{lent};
+ghost use Rattle.records_read.specs.Lies.{Sure};
 ghost use Rattle.board_rules.specs.View.{factsIn};
 ghost use Rattle.log_answers.specs.Small.{Small};
 ghost use Rattle.clock_nexts.specs.Nexts.{Nexts};
 ghost use Rattle.clock_marks.specs.Marks.{runIn};
 ghost use Rattle.clock_going.specs.Going.{Going};
 ghost use Rattle.clock_ticks.specs.Ticks.{Over};
-ghost use Rattle.desk.specs.Told.{Sure};
 
 // Tells tick t, and the last line where a job is missed; returns whether the run goes on, which it does not where a text cannot be written.
 fn tell_tick(

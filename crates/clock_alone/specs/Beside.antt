@@ -12,7 +12,7 @@ use Rattle.board_rules.specs.declared.Board.{Board}
 use Rattle.board_rules.specs.declared.Next.the-variants.{Nobody, To}
 use Rattle.board_rules.specs.Board.{holds, underP, nextOf}
 use Rattle.board_keeps.specs.Fair.{InN}
-use Rattle.clock_rules.specs.Clock.{Timing, Run, doneOf, isOn, afterTurn}
+use Rattle.clock_rules.specs.Clock.{Timing, Run, doneOf, isOn, picked, afterTurn}
 use Rattle.clock_paced.specs.Paced.{Paced, section-m}
 use Rattle.clock_steps.specs.Running.{Running}
 use Rattle.clock_runs.specs.Cores.{picked-chosen}
@@ -71,3 +71,8 @@ pub plain-beside : {T : Timing} (p : Paced T) (r : Run) → Running T (r .board)
     turnHandsOn T c₂ r ≡ false → Plain T c (afterTurn T c₂ r .board) (afterTurn T c₂ r .done) v n k
 plain-beside p r g c c₂ apart v n k h none =
     plain-same p (turn-same-core p r g c c₂ apart none) v n k h
+
+-- and the same task is picked
+pub picked-beside : {T : Timing} (p : Paced T) (r : Run) → Running T (r .board) (r .done) → (c c₂ : ℕ) → (c ≡ c₂ → ⊥) → turnHandsOn T c₂ r ≡ false →
+    picked T c (afterTurn T c₂ r .board) (afterTurn T c₂ r .done) ≡ picked T c (r .board) (r .done)
+picked-beside p r g c c₂ apart none = picked-same (turn-same-core p r g c c₂ apart none)

@@ -1,4 +1,3 @@
-pub mod Tests
 pub mod Same
 pub mod Turns
 pub mod Picks

@@ -11,6 +11,7 @@ use Rattle.laws.specs.Range.{anyTo}
 use Rattle.laws.specs.RangeLaws.{highest-same}
 use Rattle.laws.specs.BoolLaws.{both-left, miss-left, miss-right, bool-cases}
 use Rattle.laws_picks.specs.PickLaws.{top-most}
+use Rattle.laws_picks.specs.SameLaws.{any-same, top-same}
 use Rattle.plan.specs.Limits.{maxV, maxM, mostN}
 use Rattle.board_rules.specs.Facts.{Facts}
 use Rattle.board_rules.specs.declared.Board.{Board}
@@ -20,7 +21,6 @@ use Rattle.board_rules.specs.Board.{holds, holdsGlobal, localWaiter, isAsleep, 
 use Rattle.board_keeps.specs.Fair.{InV, InN}
 use Rattle.clock_rules.specs.Clock.{Timing, isReady, hasReady, isOn, mayRun, pickV, pickN, picked, idles}
 use Rattle.clock_steps.specs.Supply.{supply-same}
-use Rattle.clock_alone.specs.Tests.{any-same, top-same}
 use Rattle.clock_alone.specs.Same.{SameTasks, SameOn, SameCore}
 
 -- PRIORITIES AND SUPPLY of a VCPU whose tasks hold and wait for the same

@@ -33,7 +33,7 @@ use Rattle.clock_rules.specs.Clock.{Timing, doneOf, isOn}
 use Rattle.clock_steps.specs.Taken.{ask-granted, ask-waits, free-global, free-local}
 use Rattle.clock_steps.specs.Quiet.{SameLocks, use-locks, top-locks}
 use Rattle.clock_steps.specs.Others.{step-over}
-use Rattle.clock_plains.specs.Plains.{handsOn, anyHandsOn}
+use Rattle.clock_steps.specs.Hands.{handsOn, anyHandsOn}
 
 -- from b to b′ the tasks of w hold and wait for the same
 pub record SameTasks (w : ℕ) (b b′ : Board) : Type 0 where

@@ -35,6 +35,10 @@ pub record PickIs (T : Timing) (c : ℕ) (b : Board) (d : List ℕ) (v n m : ℕ
   pub nobody : v ≡ 0 → n ≡ 0
   pub somebody : 0 < v → 0 < n
 
+-- (v, n), where v is not 0, is whom core q picks
+abbrev pub KnownPick : Timing → ℕ → Board → List ℕ → ℕ → ℕ → Type 0
+KnownPick T q b d v n = 0 < v → picked T q b d ≡ To v n
+
 -- a task that some core picks, and that is to ask for m
 pub record Asker (T : Timing) (b : Board) (d : List ℕ) (v n m : ℕ) : Type 0 where
   pub core : ℕ
@@ -90,17 +94,3 @@ pub record Asked (p : Policy) (c : OverrunChoice) (t x ls os : List ℕ) (ss : L
   pub n-to : n ≤ 8
   pub nobody : v ≡ 0 → n ≡ 0
   pub somebody : 0 < v → 0 < n
-
--- WHO IS PICKED is asked of lists that go together, of whatever board
-pub record Goes (t x hs ws k : List ℕ) : Type 0 where
-  pub policy : Policy
-  pub choice : OverrunChoice
-  pub left : List ℕ
-  pub over : List ℕ
-  pub stopped : List Bool
-  pub going : Going policy choice t x left over stopped hs ws k
-
-abbrev pub Picks : List ℕ → List ℕ → List ℕ → List ℕ → List ℕ → ℕ → ℕ → ℕ → ℕ → Type 0
-Picks t x hs ws k q v n m =
-    (p : Policy) (c : OverrunChoice) (ls os : List ℕ) (ss : List Bool) → Going p c t x ls os ss hs ws k
-    → PickIs (timingBy p c t x) q (boardOf ls os ss hs ws) (doneIn k) v n m

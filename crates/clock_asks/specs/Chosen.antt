@@ -2,22 +2,14 @@
 use Prim.Native.Nat.{ℕ}
 use mathlib.Core.Path.{_≡_, sym, ap, subst, _∙_}
 use mathlib.Core.List.{List}
-use borrow.Author.Tests.{eq-eqb, ne-eqb}
 use Rattle.board_rules.specs.declared.Board.{Board}
 use Rattle.board_rules.specs.declared.Next.{Next}
-use Rattle.board_rules.specs.declared.Next.the-variants.{Nobody, To}
-use Rattle.board_rules.specs.Board.{nextOf}
+use Rattle.board_rules.specs.declared.Next.the-variants.{To}
+use Rattle.board_rules.specs.BoardLaws.{next-none, next-some}
 use Rattle.clock_rules.specs.Clock.{Timing, picked}
 use Rattle.clock_steps.specs.Picked.{nextV, nextN, nobody-picks, Chosen, Picked, nobody, somebody, picks}
 use Rattle.clock_asks.specs.AskCases.{dueTo}
 use Rattle.clock_asks.specs.Asked.{PickIs, Asker}
-
--- a task has a number
-pub next-some : (v n : ℕ) → (n ≡ 0 → ⊥) → nextOf v n ≡ To v n
-next-some v n nz = rw (ne-eqb n 0 nz)
-
-pub next-none : (v n : ℕ) → n ≡ 0 → nextOf v n ≡ Nobody
-next-none v n z = rw (eq-eqb n 0 z)
 
 module _ {T : Timing} {c : ℕ} {b : Board} {d : List ℕ} where
   -- a task that is picked may be picked

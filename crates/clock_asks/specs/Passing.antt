@@ -29,7 +29,7 @@ use Rattle.clock_sets.specs.Sets.{inSet, Without}
 use Rattle.clock_sets.specs.SetLaws.{in-none, some-task}
 use Rattle.clock_marks.specs.Marks.{globalMark, holdersCell, heldCell, heldBy, Mirrors}
 use Rattle.clock_mirrors.specs.Holds.{held-some}
-use Rattle.clock_picks.specs.Tops.{all-same}
+use Rattle.laws_picks.specs.SameLaws.{all-same}
 
 -- m, which a task of the same VCPU holds, does not bar task n: it is global, or its ceiling is below n
 abbrev pub clearsBy : List ℕ → ℕ → ℕ → Bool

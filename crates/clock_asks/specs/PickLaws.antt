@@ -1,7 +1,7 @@
 -- Whom a core picks, by the VCPU that it picks and the task in it.
 use Prim.Native.Nat.{ℕ, _<_, _≤_}
 use mathlib.Core.Path.{_≡_, refl, sym, ap, subst, _∙_}
-use mathlib.Core.Bool.{true, _&&_, not}
+use mathlib.Core.Bool.{Bool, true, _&&_, not}
 use mathlib.Core.List.{List}
 use native.Mathlib.Omega.{arith}
 use borrow.Author.Tests.{ne-eqb, le-leb}
@@ -10,9 +10,11 @@ use Rattle.laws.specs.Range.{anyTo}
 use Rattle.laws.specs.BoolLaws.{both-right, clash}
 use Rattle.laws_picks.specs.PickLaws.{top-passes, top-zero}
 use Rattle.plan.specs.Limits.{maxV, mostN}
+use Rattle.plan.specs.declared.Policy.{Policy}
+use Rattle.plan.specs.declared.OverrunChoice.{OverrunChoice}
 use Rattle.board_rules.specs.Facts.{Facts}
 use Rattle.board_rules.specs.declared.Board.{Board}
-use Rattle.board_rules.specs.declared.Next.the-variants.{Nobody}
+use Rattle.board_rules.specs.declared.Next.the-variants.{Nobody, To}
 use Rattle.board_rules.specs.Board.{isAsleep, nextOf, taskPriority, vcpuPriority}
 use Rattle.clock_rules.specs.Clock.{Timing, doneOf, isReady, isOn, mayRun, pickV, pickN, picked, dueOf}
 use Rattle.clock_times.specs.Times.{timingIn, lengthsCell}
@@ -21,10 +23,11 @@ use Rattle.clock_steps.specs.Done.{by-seat}
 use Rattle.clock_steps.specs.Picked.{Chosen, is-ready}
 use Rattle.clock_asks.specs.AskCases.{dueTo}
 use Rattle.board_rules.specs.View.{factsIn}
-use Rattle.clock_going.specs.Going.{timingBy}
+use Rattle.clock_going.specs.Going.{timingBy, Going}
 use Rattle.clock_picks.specs.Picking.{PicksV, PicksN, IsDue}
-use Rattle.clock_asks.specs.Asked.{PickIs, Goes, Picks}
-use Rattle.clock_asks.specs.Chosen.{next-some, picked-chosen}
+use Rattle.clock_asks.specs.Asked.{PickIs}
+use Rattle.board_rules.specs.BoardLaws.{next-some}
+use Rattle.clock_asks.specs.Chosen.{picked-chosen}
 
 module _ (T : Timing) (c : ℕ) (b : Board) (d : List ℕ) where
   -- no VCPU is picked
@@ -52,9 +55,13 @@ module _ (T : Timing) (c : ℕ) (b : Board) (d : List ℕ) where
     unfolding picked
     picked-next = rw (sym e, sym f, ne-eqb v 0 nz)
 
+    -- whom the core picks
+    pub picked-to : picked T c b d ≡ To v n
+    picked-to = picked-next ∙ next-some v n (λ z. let h = task-some in omega arith)
+
     -- it is the one that may be picked
     pub pick-chosen : Chosen T c b d v n
-    pick-chosen = picked-chosen (picked-next ∙ next-some v n (λ z. let h = task-some in omega arith))
+    pick-chosen = picked-chosen picked-to
 
     pub pick-some : v ≤ 16 → n ≤ 8 → (m : ℕ) → m ≡ dueOf T b d v n → PickIs T c b d v n m
     pick-some a y m g = record {
@@ -64,6 +71,21 @@ module _ (T : Timing) (c : ℕ) (b : Board) (d : List ℕ) where
       n-to = y;
       nobody = λ z. absurd (nz z);
       somebody = λ l. task-some;
+    }
+
+-- a task that is picked, with what is due to it
+pub pick-to : {T : Timing} {c : ℕ} {b : Board} {d : List ℕ} {v n : ℕ} → picked T c b d ≡ To v n → {m : ℕ} → m ≡ dueOf T b d v n → PickIs T c b d v n m
+pick-to {T} {c} {b} {d} {v} {n} e {m} f =
+    let h = picked-chosen e in
+    let v-from = h .v-in .from in
+    let n-from = h .n-in .from in
+    let y : nextOf v n ≡ To v n = next-some v n (λ z. omega arith) in record {
+      is-pick = e ∙ sym y;
+      is-due = f ∙ ap (dueTo T b d) (sym y);
+      v-to = h .v-in .to;
+      n-to = h .n-in .to;
+      nobody = λ z. absurd (omega arith);
+      somebody = λ l. n-from;
     }
 
 -- its job is unfinished, as the lists say it
@@ -76,21 +98,24 @@ unfinished-cells F x k {c} {b} {v} {n} g =
     omega arith
 
 -- WHAT THE CODE FINDS, of lists that go together
-module _ {t x hs ws k : List ℕ} (q : ℕ) {v : ℕ} (a : PicksV k q v) where
-  pub code-none : v ≡ 0 → Picks t x hs ws k q 0 0 0
-  code-none z p c ls os ss g = pick-none (timingBy p c t x) q (boardOf ls os ss hs ws) (doneIn k) (sym z ∙ a (timingBy p c t x) x (boardOf ls os ss hs ws) (g .mirrors))
+module _ {p : Policy} {c : OverrunChoice} {t x ls os : List ℕ} {ss : List Bool} {hs ws k : List ℕ} (g : Going p c t x ls os ss hs ws k) (q : ℕ) where
+  pub code-none : {v : ℕ} → PicksV k q v → v ≡ 0 → PickIs (timingBy p c t x) q (boardOf ls os ss hs ws) (doneIn k) 0 0 0
+  code-none a z = pick-none (timingBy p c t x) q (boardOf ls os ss hs ws) (doneIn k) (sym z ∙ a (timingBy p c t x) x (boardOf ls os ss hs ws) (g .mirrors))
 
-  module _ (nz : v ≡ 0 → ⊥) {n : ℕ} (f : PicksN t ws k v n) where
-    pub code-task : Goes t x hs ws k → 0 < n
-    code-task s =
-        let T = timingBy (s .policy) (s .choice) t x in
-        let b = boardOf (s .left) (s .over) (s .stopped) hs ws in
-        task-some T q b (doneIn k) v n (a T x b (s .going .mirrors)) nz (f (s .policy) (s .choice) x b refl (s .going .mirrors))
+  -- the task that is found is picked
+  pub code-picks : {v : ℕ} → PicksV k q v → (v ≡ 0 → ⊥) → {n : ℕ} → PicksN t ws k v n → picked (timingBy p c t x) q (boardOf ls os ss hs ws) (doneIn k) ≡ To v n
+  code-picks {v} a nz {n} f =
+      let T = timingBy p c t x in
+      let b = boardOf ls os ss hs ws in
+      picked-to T q b (doneIn k) v n (a T x b (g .mirrors)) nz (f p c x b refl (g .mirrors))
 
-    pub code-some : v ≤ 16 → n ≤ 8 → {m : ℕ} → IsDue x hs k v n m → Picks t x hs ws k q v n m
-    code-some y z {m} e p c ls os ss g =
-        let T = timingBy p c t x in
-        let b = boardOf ls os ss hs ws in
-        let i = a T x b (g .mirrors) in
-        let j = f p c x b refl (g .mirrors) in
-        pick-some T q b (doneIn k) v n i nz j y z m (e (factsIn p c t) b refl (g .ordered) (g .mirrors) (unfinished-cells (factsIn p c t) x k (pick-chosen T q b (doneIn k) v n i nz j)))
+  -- a task that is picked has its places
+  pub code-in : {v n : ℕ} → picked (timingBy p c t x) q (boardOf ls os ss hs ws) (doneIn k) ≡ To v n → (0 < v) × (v ≤ 16) × (0 < n) × (n ≤ 8)
+  code-in e = let h = picked-chosen e in (h .v-in .from, h .v-in .to, h .n-in .from, h .n-in .to)
+
+  -- what is due to a task that is picked
+  pub code-some : {v n : ℕ} → picked (timingBy p c t x) q (boardOf ls os ss hs ws) (doneIn k) ≡ To v n → {m : ℕ} → IsDue x hs k v n m → PickIs (timingBy p c t x) q (boardOf ls os ss hs ws) (doneIn k) v n m
+  code-some e {m} f =
+      let b = boardOf ls os ss hs ws in
+      let h = picked-chosen e in
+      pick-to e (f (factsIn p c t) b refl (g .ordered) (g .mirrors) (unfinished-cells (factsIn p c t) x k h))

@@ -20,8 +20,10 @@ use Rattle.clock_lines.specs.Told.{RoomAt, told-length}
 use Rattle.clock_going.specs.Going.{timingBy, Going}
 use Rattle.clock_asks.specs.AskCases.{asks-none, asks-one}
 use Rattle.clock_asks.specs.Coming.{Coming, Come, coming-first, coming-as, coming-room, coming-more, coming-last}
-use Rattle.clock_asks.specs.Asked.{PickIs, AskMade, Asked}
-use Rattle.clock_asks.specs.Chosen.{asker-picked, asker, next-some, asker-task}
+use Rattle.clock_asks.specs.Asked.{PickIs, MayAsk, AskKept, AskMade, Asked}
+use Rattle.clock_asks.specs.AskLaws.{may-ask, ask-made}
+use Rattle.board_rules.specs.BoardLaws.{next-some}
+use Rattle.clock_asks.specs.Chosen.{asker-picked, asker, asker-task}
 
 pub record Rest (p : Policy) (c : OverrunChoice) (t x ls os : List ℕ) (ss : List Bool) (on : Bool) (q i : ℕ) (hs ws k o : List ℕ) (at : ℕ) (r : ℕ) (hs′ ws′ k′ o′ : List ℕ) (at′ : ℕ) : Type 0 where
   pub going : Going p c t x ls os ss hs′ ws′ k′
@@ -83,6 +85,10 @@ module _ {p : Policy} {c : OverrunChoice} {t x ls os : List ℕ} {ss : List Bool
         pub rest-room : RoomAt on (eventLine i (Ask v n m) (step (factsIn p c t) (boardOf ls os ss hs′ ws′) (Ask v n m) .answer)) o′ at′
         rest-room = coming-room asks-first
 
+        -- what the ask requires
+        pub rest-may : MayAsk p c t ls os ss hs′ ws′ k′ v n m × RoomAt on (eventLine i (Ask v n m) (step (factsIn p c t) (boardOf ls os ss hs′ ws′) (Ask v n m) .answer)) o′ at′
+        rest-may = (may-ask (g .going) (asker h nz), rest-room)
+
         module _ {w : Bool} {hs″ ws″ k″ o″ : List ℕ} {at″ : ℕ} (e : AskMade p c t x ls os ss on i v n m hs′ ws′ k′ o′ at′ hs″ ws″ k″ o″ w at″) where
           asks-then : (y : Bool) → w ≡ y → Coming (factsIn p c t) on i (boardOf ls os ss hs ws) (asksAt (timingBy p c t x) q (runIn ls os ss hs ws k)) o at (boardOf ls os ss hs″ ws″) (leaves y) o″ at″
           asks-then y z = coming-more (subst (λ a. Coming (factsIn p c t) on i (boardOf ls os ss hs ws) (asksAt (timingBy p c t x) q (runIn ls os ss hs ws k)) o at (boardOf ls os ss hs′ ws′) (after (Ask v n m) (leaves a)) o′ at′) (sym (e .is-wait) ∙ z) asks-first) (e .board) (e .text) (e .size)
@@ -118,3 +124,11 @@ module _ {p : Policy} {c : OverrunChoice} {t x ls os : List ℕ} {ss : List Bool
                 nobody = h .nobody;
                 somebody = h .somebody;
               }
+
+        -- by the code
+        module _ {w : Bool} {hs″ ws″ k″ o″ : List ℕ} {at″ : ℕ} (e : AskKept p c t ls os ss on i v n m hs′ ws′ k′ o′ at′ hs″ ws″ k″ o″ w at″) where
+          pub kept-waits : w ≡ true → Rest p c t x ls os ss on q i hs ws k o at (r - 1) hs″ ws″ k″ o″ at″
+          kept-waits z = rest-waits (ask-made (g .going) (asker h nz) e) z
+
+          pub kept-granted : w ≡ false → Asked p c t x ls os ss on q i hs ws k o at hs″ ws″ k″ o″ v n at″
+          kept-granted z = rest-granted (ask-made (g .going) (asker h nz) e) z

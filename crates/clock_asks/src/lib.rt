@@ -11,11 +11,11 @@ ghost use Rattle.board_rules.specs.View.{factsIn};
 ghost use Rattle.board_rules.specs.Board.{step};
 ghost use Rattle.clock_rules.specs.Clock.{isWait, asksAt};
 ghost use Rattle.clock_rules.specs.Trace.{eventLine, linesAt};
-ghost use Rattle.clock_marks.specs.Marks.{boardOf, runIn, holdersCell, Sized};
+ghost use Rattle.clock_marks.specs.Marks.{boardOf, runIn, doneIn, holdersCell, Sized};
 ghost use Rattle.clock_lines.specs.Told.{RoomAt};
 ghost use Rattle.clock_going.specs.Going.{timingBy, Going};
 ghost use Rattle.clock_asks.specs.Passing.{clearsBy, passesIn, mayBy};
-ghost use Rattle.clock_asks.specs.Asked.{Goes, Picks, Took, Kept, MayAsk, AskKept, Asked};
+ghost use Rattle.clock_asks.specs.Asked.{PickIs, KnownPick, Took, Kept, MayAsk, AskKept, Asked};
 
 // Who uses the tick, nobody where v and n are 0; and where the text goes on.
 pub struct Picked {
@@ -76,16 +76,35 @@ fn keep(view: &[u64], marks: &mut [u64], v: u64, n: u64, m: u64, waits: bool)
     }
 }
 
-// Whom core c picks, and the mutex for which it is to ask.
-fn pick(view: &[u64], times: &[u64], holder: &[u16], waits: &[u8], marks: &[u64], c: u64) -> Choice
-    requires { ⌜ Goes (now view) (now times) (now holder) (now waits) (now marks) × (c ≤ 3) ⌝ }
-    ensures { λ r. ⌜ Picks (now (view .entry)) (now (times .entry)) (now (holder .entry)) (now (waits .entry)) (now (marks .entry)) c (r .v) (r .n) (r .m) ⌝ }
+// Whom core c picks, and the mutex for which it is to ask: (hv, hn), where hv is not 0, is known to be picked.
+fn pick(
+    policy: Policy,
+    choice: OverrunChoice,
+    view: &[u64],
+    times: &[u64],
+    left: &[u64],
+    over: &[u64],
+    stopped: &[bool],
+    holder: &[u16],
+    waits: &[u8],
+    marks: &[u64],
+    c: u64,
+    hv: u64,
+    hn: u64,
+) -> Choice
+    requires { ⌜ Going policy choice (now view) (now times) (now left) (now over) (now stopped) (now holder) (now waits) (now marks) × (c ≤ 3) ⌝ }
+    requires { ⌜ KnownPick (timingBy policy choice (now view) (now times)) c (boardOf (now left) (now over) (now stopped) (now holder) (now waits)) (doneIn (now marks)) hv hn ⌝ }
+    ensures { λ r. ⌜ PickIs (timingBy policy choice (now (view .entry)) (now (times .entry))) c (boardOf (now (left .entry)) (now (over .entry)) (now (stopped .entry)) (now (holder .entry)) (now (waits .entry))) (doneIn (now (marks .entry))) (r .v) (r .n) (r .m) ⌝ }
 {
-    let v = clock_picks::pick_v(marks, c);
+    let mut v = hv;
+    let mut n = hn;
     if v == 0 {
-        return Choice { v: 0, n: 0, m: 0 };
+        v = clock_picks::pick_v(marks, c);
+        if v == 0 {
+            return Choice { v: 0, n: 0, m: 0 };
+        }
+        n = clock_picks::pick_n(view, waits, marks, v);
     }
-    let n = clock_picks::pick_n(view, waits, marks, v);
     let m = clock_picks::due(times, holder, marks, v, n);
     Choice { v, n, m }
 }
@@ -174,7 +193,7 @@ fn ask(
     }
 }
 
-// The asks of core c's turn, and who then uses the tick.
+// The asks of core c's turn, and who then uses the tick: (hv, hn), where hv is not 0, is known to be picked first.
 pub fn asks(
     on: bool,
     policy: Policy,
@@ -188,18 +207,36 @@ pub fn asks(
     waits: &mut [u8],
     marks: &mut [u64],
     c: u64,
+    hv: u64,
+    hn: u64,
     t: u64,
     out: &mut [u8],
     at: usize,
 ) -> Picked
     requires { ⌜ Going policy choice (now view) (now times) (now left) (now over) (now stopped) (now holder) (now waits) (now marks) × (c ≤ 3) ⌝ }
     requires { ⌜ RoomAt on (linesAt (factsIn policy choice (now view)) t (boardOf (now left) (now over) (now stopped) (now holder) (now waits)) (asksAt (timingBy policy choice (now view) (now times)) c (runIn (now left) (now over) (now stopped) (now holder) (now waits) (now marks)) .events)) (now out) at ⌝ }
+    requires { ⌜ KnownPick (timingBy policy choice (now view) (now times)) c (boardOf (now left) (now over) (now stopped) (now holder) (now waits)) (doneIn (now marks)) hv hn ⌝ }
     ensures { λ r. ⌜ Asked policy choice (now (view .entry)) (now (times .entry)) (now (left .entry)) (now (over .entry)) (now (stopped .entry)) on c t (now (holder .entry)) (now (waits .entry)) (now (marks .entry)) (now (out .entry)) at (now (holder .exit)) (now (waits .exit)) (now (marks .exit)) (now (out .exit)) (r .v) (r .n) (r .at) ⌝ }
 {
     let mut w = at;
     let mut k: u64 = 129;
+    let mut fv = hv;
     while 0 < k {
-        let p = pick(view, times, holder, waits, marks, c);
+        let p = pick(
+            policy,
+            choice,
+            view,
+            times,
+            left,
+            over,
+            stopped,
+            holder,
+            waits,
+            marks,
+            c,
+            fv,
+            hn,
+        );
         let v = p.v;
         let n = p.n;
         let m = p.m;
@@ -229,6 +266,7 @@ pub fn asks(
             return Picked { v, n, at: w };
         }
         k -= 1;
+        fv = 0;
     }
     Picked { v: 0, n: 0, at: w }
 }

@@ -2,21 +2,18 @@
 -- kept beside them.
 use Prim.Native.Nat.{ℕ}
 use mathlib.Core.Path.{_≡_}
-use mathlib.Core.List.{List, [], _∷_}
-use mathlib.Core.Bool.{Bool, true, false, _||_}
+use mathlib.Core.List.{List}
+use mathlib.Core.Bool.{Bool}
 use Rattle.plan.specs.declared.Policy.{Policy}
 use Rattle.plan.specs.declared.OverrunChoice.{OverrunChoice}
 use Rattle.board_rules.specs.Facts.{Facts}
 use Rattle.board_rules.specs.View.{factsIn}
 use Rattle.board_rules.specs.declared.Event.{Event}
-use Rattle.board_rules.specs.declared.Next.the-variants.{Nobody, To}
-use Rattle.board_rules.specs.declared.BoardAnswer.{BoardAnswer}
-use Rattle.board_rules.specs.declared.BoardAnswer.the-variants.{Granted, Waits, Freed, Left, Shows, Refused}
 use Rattle.board_rules.specs.Events.{boardAfter}
 use Rattle.clock_rules.specs.Clock.{Timing, Run}
 use Rattle.clock_rules.specs.Trace.{linesAt}
 use Rattle.clock_times.specs.Times.{timingIn, Paired, Ordered}
-use Rattle.clock_marks.specs.Marks.{boardOf, runIn, doneIn, Mirrors}
+use Rattle.clock_marks.specs.Marks.{boardOf, doneIn, Mirrors}
 use Rattle.clock_paced.specs.Paced.{Paced}
 use Rattle.clock_steps.specs.Running.{Running}
 use Rattle.clock_lines.specs.Told.{toldAt, toldTo}
@@ -38,17 +35,3 @@ pub record Made (F : Facts) (on : Bool) (i : ℕ) (r r′ : Run) (es : List Even
   pub board : r′ .board ≡ boardAfter F (r .board) es
   pub text : b ≡ toldAt on (linesAt F i (r .board) es) a at
   pub size : w ≡ toldTo on (linesAt F i (r .board) es) at
-
--- a freed mutex goes to a task that waited
-abbrev pub handsOn : BoardAnswer → Bool
-handsOn Granted = false
-handsOn Waits = false
-handsOn (Freed Nobody) = false
-handsOn (Freed (To v n)) = true
-handsOn (Left b o) = false
-handsOn (Shows t v) = false
-handsOn (Refused r) = false
-
-abbrev pub anyHandsOn : List BoardAnswer → Bool
-anyHandsOn [] = false
-anyHandsOn (a ∷ rest) = handsOn a || anyHandsOn rest

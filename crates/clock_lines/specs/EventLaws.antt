@@ -80,7 +80,3 @@ fields-join e a = record { is = rest-tabs (eventFields e) (answerFields a) }
 
 pub answer-joins : (a : BoardAnswer) → Joins (rest (answerFields a)) (tab ∷ []) (line (answerFields a))
 answer-joins a = record { is = answer-rest a }
-
--- THE LINE
-pub event-line-is : (t : ℕ) (e : Event) (a : BoardAnswer) → eventLine t e a ≡ decimal t ++ (eventTabs e ++ (tab ∷ line (answerFields a)))
-event-line-is t e a = event-joins t e a .is ∙ ap (λ m. decimal t ++ m) (fields-join e a .is ∙ ap (λ m. eventTabs e ++ m) (answer-rest a))

@@ -45,9 +45,6 @@ pub told-to-off : {on : Bool} (x : List ℕ) (n : ℕ) → on ≡ false → told
 unfolding toldTo
 told-to-off x n e = rw e
 
-pub room-off : (x o : List ℕ) (n : ℕ) → RoomAt false x o n
-room-off x o n e = absurd (false≢true e)
-
 -- THE BUFFER KEEPS ITS LENGTH
 
 pub told-length : (on : Bool) (x o : List ℕ) (n : ℕ) → RoomAt on x o n → length (toldAt on x o n) ≡ length o

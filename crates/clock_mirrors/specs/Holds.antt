@@ -19,7 +19,8 @@ use Rattle.board_rules.specs.Settle.{GlobalHold, Marked, global-hold, hold-glob
 use Rattle.board_keeps.specs.Fair.{Fair, InV, InN, InM}
 use Rattle.board_keeps.specs.Locks.{Holding}
 use Rattle.clock_marks.specs.Marks.{globalMark, heldCell, heldBy}
-use Rattle.clock_mirrors.specs.Tells.{any-same, any-tasks}
+use Rattle.laws_picks.specs.SameLaws.{any-same}
+use Rattle.clock_mirrors.specs.Tells.{any-tasks}
 
 -- (v, n) holds the same on both boards
 abbrev pub SameHolds : Board → Board → ℕ → ℕ → Type 0

@@ -26,7 +26,7 @@ use Rattle.board_keeps.specs.Shaped.{Shaped}
 use Rattle.board_keeps.specs.Change.{left-new, over-new}
 use Rattle.board_keeps.specs.Faults.{use-clear}
 use Rattle.board_keeps.specs.Marks.{ownVcpu, own-mark, own-settled}
-use Rattle.clock_rules.specs.Clock.{Timing, isUnfinished, isReady}
+use Rattle.clock_rules.specs.Clock.{Timing}
 use Rattle.clock_sets.specs.Sets.{inSet}
 use Rattle.clock_marks.specs.Marks.{atBudget, atSpare, atDone, doneCell, doneIn, spares, Mirrors}
 use Rattle.clock_marks.specs.Changes.{PutIn}
@@ -64,17 +64,6 @@ pub record PutSupply (k k′ : List ℕ) (v : ℕ) (has spare : Bool) : Type 0 w
   pub budgets : (w : ℕ) → InV w → inSet (getD k′ atBudget 0) w ≡ (if eqb w v then has else inSet (getD k atBudget 0) w)
   pub spares-set : getD k′ atSpare 0 < 65536
   pub spared : (w : ℕ) → InV w → inSet (getD k′ atSpare 0) w ≡ (if eqb w v then spare else inSet (getD k atSpare 0) w)
-
--- two writes do it
-pub supply-put : {k k₁ k′ : List ℕ} {v : ℕ} {has spare : Bool} → PutIn k k₁ atBudget v has → PutIn k₁ k′ atSpare v spare → PutSupply k k′ v has spare
-supply-put {k} {k₁} {k′} {v} {has} {spare} p q = record {
-  length-same = q .length-same ∙ p .length-same;
-  else-same = λ j a c. q .else-same j c ∙ p .else-same j a;
-  budgets-set = subst (λ s. s < 65536) (sym (q .else-same atBudget (λ e. omega arith))) (p .is-set);
-  budgets = λ w i. ap (λ s. inSet s w) (q .else-same atBudget (λ e. omega arith)) ∙ p .names w i;
-  spares-set = q .is-set;
-  spared = λ w i. q .names w i ∙ ap (λ (s : ℕ). if eqb w v then spare else inSet s w) (p .else-same atSpare (λ e. omega arith));
-}
 
 -- the ticks done stand elsewhere
 pub put-supply-done : (k k′ : List ℕ) {v : ℕ} {has spare : Bool} → PutSupply k k′ v has spare → doneIn k′ ≡ doneIn k
@@ -144,10 +133,6 @@ module _ {T : Timing} {x : List ℕ} {b b′ : Board} {k : List ℕ} (m : Mirror
     held = λ v n i j. sym (held-same (T .facts) b b′ v n (λ y a. let e : holderOf b′ y ≡ holderOf b y = ap (λ hs. getD hs (y - 1) 0) (l .holder-same) in (λ h. sym e ∙ h, λ h. e ∙ h)));
     placed = m .placed;
   }
-
-  -- who is ready
-  pub quiet-ready : (d : List ℕ) (v n : ℕ) → isReady T b′ d v n ≡ isReady T b d v n
-  quiet-ready d v n = ap (λ ws. isUnfinished T d v n && eqb (getD ws (seat v n - 1) 0) 0) (l .waits-same)
 
   -- A CHANGE OF ONE VCPU'S SUPPLY
   pub supply-mirrors : {k′ : List ℕ} (v : ℕ) → SupplyBut v b b′ → PutSupplyOf T b′ v k k′ → Mirrors T x b′ k′

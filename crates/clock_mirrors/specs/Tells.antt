@@ -9,8 +9,8 @@ use lib.Dec.{eqb, ltb}
 use lib.ListN.{getD}
 use Rattle.laws.specs.Choice.{if_then_else_}
 use Rattle.laws.specs.Range.{anyTo}
-use Rattle.laws.specs.RangeLaws.{any-at, any-hit}
-use Rattle.laws.specs.BoolLaws.{same-or-not, both-ways}
+use Rattle.laws.specs.BoolLaws.{same-or-not}
+use Rattle.laws_picks.specs.SameLaws.{any-same}
 use Rattle.plan.specs.Limits.{mostN, maxCore}
 use Rattle.board_rules.specs.declared.Board.{Board}
 use Rattle.board_rules.specs.Board.{leftOf, overOf, isStopped, waitOf, holdsGlobal}
@@ -58,13 +58,6 @@ pub record Says (T : Timing) (x : List ℕ) (b : Board) (r : Reading) : Type 0 w
   pub ready : (v n : ℕ) → InV v → InN n → r .ready v n ≡ readyWith T b v n (r .done v n)
   pub held : (v n : ℕ) → InV v → InN n → r .held v n ≡ heldBy (T .facts) b v n
   pub placed : (v n : ℕ) → InV v → InN n → r .done v n < T .lengths v n → Ended x v n (r .done v n) (r .place v n)
-
--- tests that are the same from 1 to n
-pub any-same : (n : ℕ) {f g : ℕ → Bool} → ((k : ℕ) → 0 < k → k ≤ n → f k ≡ g k) → anyTo n f ≡ anyTo n g
-any-same n {f} {g} h =
-    both-ways (anyTo n f) (anyTo n g)
-    (λ e. let r = any-at n f e in any-hit n (r .at) g (r .within .from) (r .within .to) (sym (h (r .at) (r .within .from) (r .within .to)) ∙ r .is))
-    (λ e. let r = any-at n g e in any-hit n (r .at) f (r .within .from) (r .within .to) (h (r .at) (r .within .from) (r .within .to) ∙ r .is))
 
 -- what holds from 1 to n, by the numbers' names
 pub any-tasks : {f g : ℕ → Bool} → ((n : ℕ) → InN n → f n ≡ g n) → anyTo mostN f ≡ anyTo mostN g

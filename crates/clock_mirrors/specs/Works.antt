@@ -143,7 +143,3 @@ module _ {T : Timing} (p : Paced T) {x : List ℕ} {b : Board} {k : List ℕ} (m
 
       lacks : T .facts .hasTask v n ≡ false → ltb 0 (T .lengths v n) ≡ readyWith T b v n 0
       lacks h = rw (h, p .no-length v n h)
-
-  -- and the ticks done
-  pub release-done : doneIn k′ ≡ set (doneIn k) (seat v n - 1) 0
-  release-done = done-put k v n 0 i j (tells-ready (tells-job (mirrors-tell mir) i j job) i r) (λ w y. refl)

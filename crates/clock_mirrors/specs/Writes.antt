@@ -286,15 +286,3 @@ seat-list d f l h = ext-getD 0 d (bySeat f) (l ∙ sym (seats-long f)) at
 -- lists with the same cells of them
 pub done-kept : (k k′ : List ℕ) → ((v n : ℕ) → InV v → InN n → doneCell k′ v n ≡ doneCell k v n) → doneIn k′ ≡ doneIn k
 done-kept k k′ h = seat-list (doneIn k′) (λ v n. doneCell k v n) (seats-long (λ v n. doneCell k′ v n)) (λ v n i j. by-seat (λ v n. doneCell k′ v n) v n i j ∙ h v n i j)
-
--- no set of VCPUs has them
-pub put-in-done : (k k′ : List ℕ) {i v : ℕ} {on : Bool} → PutIn k k′ i v on → i ≤ atHolding → doneIn k′ ≡ doneIn k
-put-in-done k k′ p l = done-kept k k′ (λ w y a c. p .else-same (atDone + seat w y) (λ e. omega arith))
-
--- nor has a set of tasks
-pub put-ready-done : (k k′ : List ℕ) {v n : ℕ} {on : Bool} → PutReady k k′ v n on → InV v → doneIn k′ ≡ doneIn k
-put-ready-done k k′ p i = done-kept k k′ (λ w y a c. p .else-same (atDone + seat w y) (λ e. omega arith) (λ e. omega arith))
-
--- nor what a task holds
-pub put-held-done : (k k′ : List ℕ) {v n m : ℕ} → PutHeld k k′ v n m → InV v → InN n → doneIn k′ ≡ doneIn k
-put-held-done k k′ p i j = done-kept k k′ (λ w y a c. p .else-same (atDone + seat w y) (λ e. omega arith) (λ e. omega arith))

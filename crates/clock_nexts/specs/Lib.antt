@@ -4,3 +4,5 @@ pub mod WriteLaws
 pub mod PartLaws
 pub mod ScanLaws
 pub mod DueLaws
+pub mod Gather
+pub mod SetLaws

@@ -4,7 +4,7 @@
 use Prim.Native.Nat.{ℕ, _+_, _-_, _*_, _<_, _≤_}
 use mathlib.Core.Path.{_≡_}
 use mathlib.Core.List.{List, []}
-use mathlib.Core.Bool.{Bool, _&&_}
+use mathlib.Core.Bool.{Bool, true, _&&_}
 use lib.Dec.{eqb, ltb}
 use lib.ListN.{length, getD}
 use Rattle.laws.specs.Choice.{if_then_else_}
@@ -15,6 +15,7 @@ use Rattle.board_seats.specs.Seats.{seat}
 use Rattle.board_rules.specs.declared.Next.the-variants.{Nobody}
 use Rattle.board_keeps.specs.Fair.{InV, InN}
 use Rattle.clock_rules.specs.Clock.{Timing, tops, missed, released}
+use Rattle.clock_sets.specs.Sets.{inSet}
 use Rattle.clock_times.specs.Times.{atRefill, atLengths, timesLength}
 use Rattle.clock_marks.specs.Marks.{doneCell}
 
@@ -120,6 +121,11 @@ pub record Jobs (x y : List ℕ) (t : ℕ) : Type 0 where
 pub record Periods (x : List ℕ) : Type 0 where
   pub long : length x ≡ timesLength
   pub to : (i : ℕ) → i < places → periodAt x i ≤ maxPeriod
+
+-- the set has every VCPU that recurs
+pub record HasTops (x : List ℕ) (all : ℕ) : Type 0 where
+  pub is-set : all < 65536
+  pub has : (v : ℕ) → InV v → 0 < periodAt x (v - 1) → inSet all v ≡ true
 
 -- the next of one with period p whose next was y, when tick t is over
 abbrev pub renewed : ℕ → ℕ → ℕ → ℕ

@@ -1,9 +1,12 @@
 // When the VCPUs and tasks of a plan recur, by the next tick of each, kept in a list of their own: a tick divides nothing, and one without recurrence looks at two cells.
 use board_seats::both;
 ghost use mathlib.Core.Path.{_≡_};
-ghost use Prim.Native.Nat.{_<_, _≤_};
+ghost use Prim.Native.Nat.{ℕ, _<_, _≤_};
+ghost use mathlib.Core.Bool.{true};
 ghost use lib.ListN.{length, getD};
-ghost use Rattle.clock_nexts.specs.Nexts.{isDue, missesAt, missesIn, missedV, missedN, renewed, renewal, sooner, Tops, Row, Jobs, Periods, Wrote, Soonest, TopsRenewed, RowRenewed, RowsRenewed, JobsRenewed};
+ghost use Rattle.board_keeps.specs.Fair.{InV};
+ghost use Rattle.clock_sets.specs.Sets.{inSet};
+ghost use Rattle.clock_nexts.specs.Nexts.{isDue, missesAt, missesIn, missedV, missedN, renewed, renewal, sooner, Tops, Row, Jobs, Periods, HasTops, Wrote, Soonest, TopsRenewed, RowRenewed, RowsRenewed, JobsRenewed};
 
 // Does the one at place i recur at tick t?
 pub fn is_due(nexts: &[u64], i: u64, t: u64) -> bool
@@ -114,12 +117,56 @@ fn renew(times: &[u64], nexts: &mut [u64], a: usize, e: usize, t: u64) -> u64
     r
 }
 
-// Writes the next tops, when those of tick t are made.
-pub fn renew_tops(times: &[u64], nexts: &mut [u64], t: u64)
-    requires { ⌜ Periods (now times) × (length (now nexts) ≡ 162) × Tops (now times) (now nexts) t × (t ≤ 1000000) ⌝ }
+// s, with v where `on`.
+fn gather(s: u64, v: u64, on: bool) -> u64
+    requires { ⌜ (0 < v) × (v ≤ 16) × (s < 65536) ⌝ }
+    ensures { λ r. ⌜ (r < 65536) × ((w : ℕ) → InV w → inSet s w ≡ true → inSet r w ≡ true) × (on ≡ true → inSet r v ≡ true) ⌝ }
+{
+    if on {
+        return clock_sets::with(s, v);
+    }
+    s
+}
+
+// The set of the VCPUs that recur.
+pub fn recurring(times: &[u64]) -> u64
+    requires { ⌜ length (now times) ≡ 3360 ⌝ }
+    ensures { λ r. ⌜ HasTops (now (times .entry)) r ⌝ }
+{
+    let mut s = 0;
+    let mut i: u64 = 0;
+    while i < 16 {
+        let p = board_seats::at(times, 16 + i);
+        s = gather(s, i + 1, 0 < p);
+        i += 1;
+    }
+    s
+}
+
+// The same for the VCPUs of a set that has all that recur: the others have no next.
+fn renew_set(times: &[u64], nexts: &mut [u64], all: u64, t: u64) -> u64
+    requires { ⌜ Periods (now times) × (length (now nexts) ≡ 162) × Tops (now times) (now nexts) t × (t ≤ 1000000) × HasTops (now times) all ⌝ }
+    ensures { λ r. ⌜ Wrote (renewal (now (times .entry)) (now (nexts .entry)) t) (now (nexts .entry)) (now (nexts .exit)) 0 16 × Soonest (renewal (now (times .entry)) (now (nexts .entry)) t) 0 16 r ⌝ }
+{
+    let mut r = 3000000;
+    let mut rest = all;
+    while rest != 0 {
+        let v = clock_sets::lowest_in(rest);
+        let i = v as usize - 1;
+        let y = renewed(times[16 + i], nexts[i], t);
+        nexts[i] = y;
+        r = sooner(y, r);
+        rest = clock_sets::without(rest, v);
+    }
+    r
+}
+
+// Writes the next tops, when those of tick t are made: only the VCPUs of the set, which has all that recur, are looked at.
+pub fn renew_tops(times: &[u64], nexts: &mut [u64], all: u64, t: u64)
+    requires { ⌜ Periods (now times) × (length (now nexts) ≡ 162) × Tops (now times) (now nexts) t × (t ≤ 1000000) × HasTops (now times) all ⌝ }
     ensures { λ out. ⌜ TopsRenewed (now (times .entry)) (now (nexts .entry)) (now (nexts .exit)) t ⌝ }
 {
-    let r = renew(times, nexts, 0, 16, t);
+    let r = renew_set(times, nexts, all, t);
     nexts[160] = r;
 }
 

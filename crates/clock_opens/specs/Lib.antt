@@ -1,4 +1,5 @@
 pub mod Opens
 pub mod TopLaws
+pub mod WalkLaws
 pub mod ReleaseLaws
 pub mod OpenLaws

@@ -23,6 +23,7 @@ use Rattle.board_rules.specs.Events.{boardAfter}
 use Rattle.board_keeps.specs.Fair.{InV}
 use Rattle.clock_rules.specs.Clock.{tops, missed, opened}
 use Rattle.clock_rules.specs.Trace.{eventLine, linesAt}
+use Rattle.clock_sets.specs.Sets.{inSet}
 use Rattle.clock_times.specs.Times.{atLengths, timingIn, Ordered}
 use Rattle.clock_marks.specs.Marks.{atReady, atDone, boardOf, runIn, doneIn, spares, Sized, Mirrors}
 use Rattle.clock_marks.specs.Changes.{PutReady}
@@ -55,6 +56,19 @@ pub record Topped (F : Facts) (x : List ℕ) (on : Bool) (t : ℕ) (b : Board) (
   pub else-same : (j : ℕ) → atReady ≤ j → getD k′ j 0 ≡ getD k j 0
   pub text : a′ ≡ toldAt on (linesAt F t b (topsTo y t v)) a at
   pub size : w ≡ toldTo on (linesAt F t b (topsTo y t v)) at
+
+-- the set has every VCPU that is due
+pub record DueIn (y : List ℕ) (t all : ℕ) : Type 0 where
+  pub is-set : all < 65536
+  pub has : (v : ℕ) → InV v → isDue y t (v - 1) ≡ true → inSet all v ≡ true
+
+-- of the set's VCPUs the tops are made but for those that are still in it: those of the first `upto` are made
+pub record Walking (F : Facts) (x : List ℕ) (on : Bool) (t : ℕ) (b : Board) (k y a : List ℕ) (at rest : ℕ) (b′ : Board) (k′ a′ : List ℕ) (w : ℕ) : Type 0 where
+  pub upto : ℕ
+  pub topped : Topped F x on t b k y a at upto b′ k′ a′ w
+  pub is-set : rest < 65536
+  pub above : (v : ℕ) → InV v → inSet rest v ≡ true → upto < v
+  pub ahead : (v : ℕ) → InV v → upto < v → isDue y t (v - 1) ≡ true → inSet rest v ≡ true
 
 -- all that are due are made, and y′ says when the VCPUs recur next
 pub record TopsMade (F : Facts) (x : List ℕ) (on : Bool) (t : ℕ) (b : Board) (k y a : List ℕ) (at : ℕ) (b′ : Board) (k′ y′ a′ : List ℕ) (w : ℕ) : Type 0 where

@@ -16,7 +16,7 @@ ghost use Rattle.clock_marks.specs.Marks.{boardOf, Sized};
 ghost use Rattle.clock_lines.specs.Told.{RoomAt};
 ghost use Rattle.clock_nexts.specs.Nexts.{Nexts, Periods, Jobs};
 ghost use Rattle.clock_going.specs.Going.{timingBy, Going};
-ghost use Rattle.clock_opens.specs.Opens.{topsTo, OneTop, Topped, TopsMade, Release, Releases, Jobbed, Opening};
+ghost use Rattle.clock_opens.specs.Opens.{topsTo, OneTop, Topped, DueIn, TopsMade, Release, Releases, Jobbed, Opening};
 
 // What the opening of a tick leaves: where its text ends, and whose job is the first missed, v and n 0 for nobody's.
 pub struct Opened {
@@ -64,17 +64,19 @@ fn tops(
     waits: &[u8],
     marks: &mut [u64],
     nexts: &[u64],
+    all: u64,
     t: u64,
     out: &mut [u8],
     at: usize,
 ) -> usize
-    requires { ⌜ Going policy choice (now view) (now times) (now left) (now over) (now stopped) (now holder) (now waits) (now marks) × (length (now nexts) ≡ 162) × RoomAt on (linesAt (factsIn policy choice (now view)) t (boardOf (now left) (now over) (now stopped) (now holder) (now waits)) (topsTo (now nexts) t 16)) (now out) at ⌝ }
+    requires { ⌜ Going policy choice (now view) (now times) (now left) (now over) (now stopped) (now holder) (now waits) (now marks) × (length (now nexts) ≡ 162) × RoomAt on (linesAt (factsIn policy choice (now view)) t (boardOf (now left) (now over) (now stopped) (now holder) (now waits)) (topsTo (now nexts) t 16)) (now out) at × DueIn (now nexts) t all ⌝ }
     ensures { λ r. ⌜ Topped (factsIn policy choice (now (view .entry))) (now (times .entry)) on t (boardOf (now (left .entry)) (now (over .entry)) (now (stopped .entry)) (now (holder .entry)) (now (waits .entry))) (now (marks .entry)) (now (nexts .entry)) (now (out .entry)) at 16 (boardOf (now (left .exit)) (now (over .exit)) (now (stopped .exit)) (now (holder .entry)) (now (waits .entry))) (now (marks .exit)) (now (out .exit)) r ⌝ }
 {
     let mut w = at;
-    let mut i: u64 = 0;
-    while i < 16 {
-        if clock_nexts::is_due(nexts, i, t) {
+    let mut rest = all;
+    while rest != 0 {
+        let v = clock_sets::lowest_in(rest);
+        if clock_nexts::is_due(nexts, v - 1, t) {
             w = top(
                 on,
                 policy,
@@ -86,13 +88,13 @@ fn tops(
                 holder,
                 waits,
                 marks,
-                i + 1,
+                v,
                 t,
                 out,
                 w,
             );
         }
-        i += 1;
+        rest = clock_sets::without(rest, v);
     }
     w
 }
@@ -121,6 +123,7 @@ fn tops_due(
     if nexts[160] != t {
         return at;
     }
+    let all = clock_nexts::recurring(times);
     let w = tops(
         on,
         policy,
@@ -134,11 +137,12 @@ fn tops_due(
         waits,
         marks,
         nexts,
+        all,
         t,
         out,
         at,
     );
-    clock_nexts::renew_tops(times, nexts, t);
+    clock_nexts::renew_tops(times, nexts, all, t);
     w
 }
 

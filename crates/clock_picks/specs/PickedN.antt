@@ -6,16 +6,15 @@ use mathlib.Core.Bool.{Bool, true, false, _&&_, not}
 use mathlib.Core.Logic.{⊎-elim}
 use native.Mathlib.Nat.{eq-zero-or-pos}
 use native.Mathlib.Omega.{arith}
-use borrow.Author.Tests.{eqb-true, eq-eqb, ne-eqb, not-false}
+use borrow.Author.Tests.{eqb-true, ne-eqb, not-false}
 use lib.Dec.{eqb}
 use lib.ListN.{getD}
 use Rattle.laws.specs.Choice.{if_then_else_}
 use Rattle.laws.specs.Range.{highest}
-use Rattle.laws.specs.RangeLaws.{any-at, highest-le, highest-passes, highest-zero, highest-same}
-use Rattle.laws.specs.BoolLaws.{both, both-right, clash, is-false, same-or-not}
+use Rattle.laws.specs.RangeLaws.{highest-le, highest-passes, highest-zero, highest-same}
+use Rattle.laws.specs.BoolLaws.{both, clash, is-false, same-or-not}
 use Rattle.laws_picks.specs.Picks.{topOf}
-use Rattle.laws_picks.specs.PickLaws.{top-most, top-found}
-use Rattle.plan.specs.Limits.{maxV, maxM, mostN, taskRaise}
+use Rattle.plan.specs.Limits.{maxM, taskRaise}
 use Rattle.plan.specs.declared.Policy.{Policy}
 use Rattle.plan.specs.declared.OverrunChoice.{OverrunChoice}
 use Rattle.board_walks.specs.Walks.{localUnder}
@@ -23,15 +22,15 @@ use Rattle.board_seats.specs.Seats.{seat, ceilingOf}
 use Rattle.board_rules.specs.Facts.{Facts}
 use Rattle.board_rules.specs.View.{factsIn}
 use Rattle.board_rules.specs.declared.Board.{Board}
-use Rattle.board_rules.specs.declared.Next.the-variants.{Nobody, To}
-use Rattle.board_rules.specs.Board.{holds, isAsleep, localWaiter, heldGlobal, heldLocal, raisedBy, taskPriority, vcpuPriority}
+use Rattle.board_rules.specs.Board.{holds, localWaiter, heldGlobal, heldLocal, raisedBy, taskPriority}
 use Rattle.board_keeps.specs.Fair.{InV, InN}
-use Rattle.clock_rules.specs.Clock.{Timing, isReady, hasReady, isOn, mayRun, pickV, pickN, picked}
+use Rattle.clock_rules.specs.Clock.{Timing, isReady, pickN}
 use Rattle.clock_sets.specs.Sets.{inSet, Without, Meet}
 use Rattle.clock_sets.specs.SetLaws.{in-none, some-task}
 use Rattle.clock_times.specs.Times.{timingIn}
 use Rattle.clock_marks.specs.Marks.{atHeld, tasksCell, holdersCell, heldCell, heldBy, globalMark, doneIn, Mirrors}
-use Rattle.clock_picks.specs.Tops.{top-plain, top-one, top-same}
+use Rattle.laws_picks.specs.SameLaws.{top-same}
+use Rattle.clock_picks.specs.Tops.{top-plain, top-one}
 use Rattle.clock_picks.specs.Picking.{rankOf, PicksN}
 
 -- THE PRIORITY of a task is its rank by what it holds
@@ -124,36 +123,4 @@ pub pick-n-ranked : (t ws k : List ℕ) (v : ℕ) {s r : ℕ} → InV v → s �
 unfolding pickN timingIn
 pick-n-ranked t ws k v i e q p o x b w m =
     q ∙ top-same 8 (ready-is m v i e)
-    (λ n a l. ap₂ (λ y h. rankOf t y v h n) (sym w) (m .held v n i (record { from = a; to = l })) ∙ priority-rank p o t b v n)
-
--- WHO IS PICKED BY BOTH
-
--- the VCPU that core c picks has a task that is picked in it, and both are in range
-pub record PickedBoth (T : Timing) (c : ℕ) (b : Board) (d : List ℕ) : Type 0 where
-  pub v-in : InV (pickV T c b d)
-  pub n-in : InN (pickN T b d (pickV T c b d))
-  pub is : picked T c b d ≡ To (pickV T c b d) (pickN T b d (pickV T c b d))
-
-module _ (T : Timing) (c : ℕ) (b : Board) (d : List ℕ) where
-  pub picked-none : pickV T c b d ≡ 0 → picked T c b d ≡ Nobody
-  unfolding picked
-  picked-none e = rw (eq-eqb (pickV T c b d) 0 e)
-
-  -- a VCPU that may run has a ready task, so that one is picked
-  task-in : (v : ℕ) → mayRun T c b d v ≡ true → InN (pickN T b d v)
-  unfolding pickN
-  task-in v e =
-      let h = both-right (not (isAsleep (T .facts) b v)) (hasReady T b d v) (both-right (isOn T c v) _ e) in
-      let w = any-at mostN (isReady T b d v) h in
-      top-found mostN (isReady T b d v) (taskPriority (T .facts) b v) (w .at) (w .within .from) (w .within .to) (w .is) .in-range
-
-  pub picked-both : 0 < pickV T c b d → PickedBoth T c b d
-  unfolding picked pickV
-  picked-both h =
-      let r = top-most maxV (mayRun T c b d) (vcpuPriority (T .facts) b) h in
-      let j = task-in (pickV T c b d) (r .is-passed) in
-      record {
-        v-in = r .in-range;
-        n-in = j;
-        is = rw (ne-eqb (pickV T c b d) 0 (λ e. omega arith), ne-eqb (pickN T b d (pickV T c b d)) 0 (λ e. let g = j .from in omega arith));
-      }
+    (λ n a l _. ap₂ (λ y h. rankOf t y v h n) (sym w) (m .held v n i (record { from = a; to = l })) ∙ priority-rank p o t b v n)

@@ -1,13 +1,12 @@
 -- The topmost by a measure: where the measure is the name itself, and where it raises some names above all others.
-use Prim.Native.Nat.{ℕ, zero, suc, _+_, _<_, _≤_}
-use mathlib.Core.Path.{_≡_, refl, sym, ap, ap₂, _∙_}
-use mathlib.Core.Bool.{Bool, true, false, _&&_, _||_, not}
+use Prim.Native.Nat.{ℕ, _+_, _<_, _≤_}
+use mathlib.Core.Path.{_≡_, refl, sym, _∙_}
+use mathlib.Core.Bool.{Bool, true, false, _&&_}
 use mathlib.Core.Logic.{inr, ⊎-elim}
 use native.Mathlib.Nat.{eq-zero-or-pos}
 use native.Mathlib.Omega.{arith}
-use lib.Dec.{leb}
-use Rattle.laws.specs.Range.{anyTo, allTo, highest}
-use Rattle.laws.specs.RangeLaws.{highest-le, highest-passes, highest-least, highest-zero, highest-same}
+use Rattle.laws.specs.Range.{anyTo, highest}
+use Rattle.laws.specs.RangeLaws.{highest-le, highest-passes, highest-least, highest-zero}
 use Rattle.laws.specs.BoolLaws.{both, both-left, both-right, bool-cases, clash}
 use Rattle.laws_picks.specs.Picks.{topOf}
 use Rattle.laws_picks.specs.PickLaws.{top-zero, top-found}
@@ -57,20 +56,3 @@ module _ (n : ℕ) (f : ℕ → Bool) (p : ℕ → ℕ) where
             (λ j a b q. ⊎-elim (λ y. let z = raised j a b q y in omega arith) (λ y. let z = plain j a b q y in omega arith) (bool-cases (g j)))
             (λ j a b q. ⊎-elim (λ y. let z = raised j a b q y in let w = least j b q y in omega arith) (λ y. let z = plain j a b q y in omega arith) (bool-cases (g j)))
             (λ j a b q. ⊎-elim (λ y. let w = least j b q y in absurd (omega arith)) (λ y. let z = plain j (omega arith) b q y in omega arith) (bool-cases (g j)))
-
-pub any-same : (n : ℕ) {f g : ℕ → Bool} → ((k : ℕ) → 0 < k → k ≤ n → f k ≡ g k) → anyTo n f ≡ anyTo n g
-unfolding anyTo
-any-same zero h = refl
-any-same (suc n) h = ap₂ _||_ (h (suc n) (omega arith) (omega arith)) (any-same n (λ k a l. h k a (omega arith)))
-
-pub all-same : (n : ℕ) {f g : ℕ → Bool} → ((k : ℕ) → 0 < k → k ≤ n → f k ≡ g k) → allTo n f ≡ allTo n g
-unfolding allTo
-all-same zero h = refl
-all-same (suc n) h = ap₂ _&&_ (h (suc n) (omega arith) (omega arith)) (all-same n (λ k a l. h k a (omega arith)))
-
--- tests and measures that agree from 1 to n have the same topmost
-pub top-same : (n : ℕ) {f g : ℕ → Bool} {p q : ℕ → ℕ} → ((j : ℕ) → 0 < j → j ≤ n → f j ≡ g j) → ((j : ℕ) → 0 < j → j ≤ n → p j ≡ q j) → topOf n f p ≡ topOf n g q
-unfolding topOf
-top-same n h e =
-    highest-same n (λ k a l. ap₂ _&&_ (h k a l)
-    (all-same n (λ j b c. ap₂ _||_ (ap not (h j b c)) (ap₂ leb (e j b c) (e k a l)))))

@@ -20,7 +20,7 @@ use Rattle.board_rules.specs.Board.{seat, leftOf, holdsGlobal, localWaiter, res
 use Rattle.board_keeps.specs.Fair.{InV, InN}
 use Rattle.clock_rules.specs.Clock.{Timing, isUnfinished, isReady, hasReady, isOn, mayRun, pickV, pickN, picked, idles}
 use Rattle.clock_steps.specs.Quiet.{SameLocks, same-global}
-use Rattle.clock_picks.specs.Tops.{any-same, top-same}
+use Rattle.laws_picks.specs.SameLaws.{any-same, top-same}
 
 -- from (b, d) to (b′, d′) nothing changes that a pick looks at
 pub record Alike (T : Timing) (b : Board) (d : List ℕ) (b′ : Board) (d′ : List ℕ) : Type 0 where
@@ -85,14 +85,14 @@ module _ {T : Timing} {b : Board} {d : List ℕ} {b′ : Board} {d′ : List ℕ
   unfolding pickV vcpuPriority
   pick-v-alike c =
       top-same maxV (λ v a l. may-run-alike c v (record { from = a; to = l }))
-      (λ v a l. ap (λ (t : Bool). if t then vcpuRaise + v else v) (same-global (T .facts) v alike-locks))
+      (λ v a l _. ap (λ (t : Bool). if t then vcpuRaise + v else v) (same-global (T .facts) v alike-locks))
 
   -- in it too
   pub pick-n-alike : (v : ℕ) → InV v → pickN T b′ d′ v ≡ pickN T b d v
   unfolding pickN
   pick-n-alike v i =
       top-same mostN (λ n a l. ready-alike v n i (record { from = a; to = l }))
-      (λ n a l. priority-alike (T .facts) b b′ v n (s .holder-same) (s .waits-same))
+      (λ n a l _. priority-alike (T .facts) b b′ v n (s .holder-same) (s .waits-same))
 
   -- the pick as a whole
   pub picked-alike : (c : ℕ) → picked T c b′ d′ ≡ picked T c b d

@@ -176,19 +176,6 @@ spent-by-none = record {
   done = λ w y i j. refl;
 }
 
--- and no ticks
-spent-in-none : {T : Timing} {cs : List ℕ} {vs ns : ℕ → ℕ} {b : Board} {d : List ℕ} → SpentIn T cs vs ns b d 0 b d
-spent-in-none {T} {cs} {vs} {ns} {b} {d} = record {
-  left-long = refl;
-  left = λ w i. by-test (losesIn T cs b d vs w) (λ e. omega arith) (λ e. refl);
-  over-same = refl;
-  stopped-same = refl;
-  holder-same = refl;
-  waits-same = refl;
-  done-same = refl;
-  done = λ w y i j. by-test (doesIn cs vs ns w y) (λ e. omega arith) (λ e. refl);
-}
-
 module _ {T : Timing} {cs : List ℕ} {vs ns : ℕ → ℕ} {b : Board} {d : List ℕ} where
   -- a choice that is made
   left-by : {k : ℕ} {b′ : Board} {d′ : List ℕ} → SpentIn T cs vs ns b d k b′ d′ → (w : ℕ) → InV w → (u : Bool) → losesIn T cs b d vs w ≡ u → leftOf b′ w ≡ (if u then leftOf b w - k else leftOf b w)
@@ -277,7 +264,7 @@ module _ {T : Timing} {t : ℕ} (q : Quiet T t) (r : Run) (long : length (r .don
       ap₂ run (q .tops-none) (q .released-none (r .done) long)
 
   -- and the run goes on
-  run-quiet : (k : ℕ) → runFrom T (suc k) t r ≡ runFrom T k (t + 1) (afterTurns T cores r)
+  pub run-quiet : (k : ℕ) → runFrom T (suc k) t r ≡ runFrom T k (t + 1) (afterTurns T cores r)
   unfolding runFrom tick
   run-quiet k =
       ap (unlessMissed (runFrom T k (t + 1) (tick T t r)) (λ v n. Missed t v n)) (q .missed-none (r .done)) ∙ ap (λ x. runFrom T k (t + 1) (afterTurns T cores x)) opened-quiet
@@ -287,35 +274,37 @@ module _ {T : Timing} (p : Paced T) (vs ns : ℕ → ℕ) (m : ℕ) where
   cores-apart : AllApart cores
   cores-apart = omega arith
 
-  -- tick after tick
-  ticks-in : (k t : ℕ) {r r′ : Run} → Kept T r → Plains T vs ns (r .board) (r .done) k cores → ((i : ℕ) → i < k → Quiet T (t + i)) → SpentIn T cores vs ns (r .board) (r .done) k (r′ .board) (r′ .done) →
-      runFrom T (k + m) t r ≡ runFrom T m (t + k) r′
+  -- tick after tick, behind what a first one opens with
+  ticks-in : (k t : ℕ) {r r′ : Run} → Kept T r → Plains T vs ns (r .board) (r .done) (suc k) cores → ((i : ℕ) → i < k → Quiet T (t + i)) → SpentIn T cores vs ns (r .board) (r .done) (suc k) (r′ .board) (r′ .done) →
+      runFrom T (k + m) t (afterTurns T cores r) ≡ runFrom T m (t + k) r′
   ticks-in zero t {r} {r′} g h q s =
-      let e = one-in (g .shaped .left-long) (g .done-long) spent-in-none s in
+      let w = turns-plain p cores {r = r} g h cores-apart in
+      let e = one-in (g .shaped .left-long) (g .done-long) (w .spent) s in
       let run : Board → List ℕ → Run = λ x y. record { board = x; done = y } in
-      ap₂ (λ x y. runFrom T x y r) {x = 0 + m} {y = m} {u = t} {v = t + 0} (omega arith) (omega arith) ∙ ap₂ (λ x y. runFrom T m (t + 0) (run x y)) (e .0) (e .1)
+      ap₂ (λ x y. runFrom T x y (afterTurns T cores r)) {x = 0 + m} {y = m} {u = t} {v = t + 0} (omega arith) (omega arith) ∙ ap₂ (λ x y. runFrom T m (t + 0) (run x y)) (e .0) (e .1)
   ticks-in (suc k) t {r} {r′} g h q s =
       let r₁ = afterTurns T cores r in
+      let g₁ = turns-kept p cores {r = r} g in
       let w = turns-plain p cores {r = r} g h cores-apart in
-      ap (λ x. runFrom T x t r) {x = suc k + m} {y = suc (k + m)} (omega arith)
-      ∙ run-quiet (subst (Quiet T) {x = t + 0} {y = t} (omega arith) (q 0 (omega arith))) r (g .done-long) (k + m)
-      ∙ ticks-in k (t + 1) {r = r₁} {r′ = r′} (turns-kept p cores {r = r} g) (w .plain)
+      ap (λ x. runFrom T x t r₁) {x = suc k + m} {y = suc (k + m)} (omega arith)
+      ∙ run-quiet (subst (Quiet T) {x = t + 0} {y = t} (omega arith) (q 0 (omega arith))) r₁ (g₁ .done-long) (k + m)
+      ∙ ticks-in k (t + 1) {r = r₁} {r′ = r′} g₁ (w .plain)
       (λ i l. subst (Quiet T) {x = t + suc i} {y = t + 1 + i} (omega arith) (q (suc i) (omega arith)))
-      (rest-in (w .alike) (w .spent) (subst (λ x. SpentIn T cores vs ns (r .board) (r .done) x (r′ .board) (r′ .done)) {x = suc k} {y = 1 + k} (omega arith) s))
+      (rest-in (w .alike) (w .spent) (subst (λ x. SpentIn T cores vs ns (r .board) (r .done) x (r′ .board) (r′ .done)) {x = suc (suc k)} {y = 1 + suc k} (omega arith) s))
       ∙ ap (λ x. runFrom T m x r′) {x = t + 1 + k} {y = t + suc k} (omega arith)
 
-  -- K QUIET TICKS of plain turns: k ticks of core 0, then of core 1, of core 2 and of core 3
-  pub plain-ticks : (k t : ℕ) {b b₁ b₂ b₃ b₄ : Board} {d d₁ d₂ d₃ d₄ : List ℕ} → Running T b d → ((c : ℕ) → c ≤ 3 → Plain T c b d (vs c) (ns c) k) → ((i : ℕ) → i < k → Quiet T (t + i)) →
-      Spent T 0 b d (vs 0) (ns 0) k b₁ d₁ → Spent T 1 b₁ d₁ (vs 1) (ns 1) k b₂ d₂ → Spent T 2 b₂ d₂ (vs 2) (ns 2) k b₃ d₃ → Spent T 3 b₃ d₃ (vs 3) (ns 3) k b₄ d₄ →
-      runFrom T (k + m) t (record { board = b; done = d }) ≡ runFrom T m (t + k) (record { board = b₄; done = d₄ })
+  -- A TICK WHOSE TURNS ARE STILL TO BE MADE, AND K QUIET ONES, of plain turns: k + 1 ticks of core 0, then of core 1, of core 2 and of core 3
+  pub plain-ticks : (k t : ℕ) {b b₁ b₂ b₃ b₄ : Board} {d d₁ d₂ d₃ d₄ : List ℕ} → Running T b d → ((c : ℕ) → c ≤ 3 → Plain T c b d (vs c) (ns c) (suc k)) → ((i : ℕ) → i < k → Quiet T (t + i)) →
+      Spent T 0 b d (vs 0) (ns 0) (suc k) b₁ d₁ → Spent T 1 b₁ d₁ (vs 1) (ns 1) (suc k) b₂ d₂ → Spent T 2 b₂ d₂ (vs 2) (ns 2) (suc k) b₃ d₃ → Spent T 3 b₃ d₃ (vs 3) (ns 3) (suc k) b₄ d₄ →
+      runFrom T (k + m) t (afterTurns T cores (record { board = b; done = d })) ≡ runFrom T m (t + k) (record { board = b₄; done = d₄ })
   plain-ticks k t {b} {b₁} {b₂} {b₃} {b₄} {d} {d₁} {d₂} {d₃} {d₄} g h q s₀ s₁ s₂ s₃ =
       let o = cores-apart in
       let l = g .done-long in
       let l₁ = done-long s₀ ∙ l in
       let l₂ = done-long s₁ ∙ l₁ in
       let l₃ = done-long s₂ ∙ l₂ in
-      let few : k ≤ k = omega arith in
-      let h₀ : Plains T vs ns b d k cores = one-plain (h 0 (omega arith)) (one-plain (h 1 (omega arith)) (one-plain (h 2 (omega arith)) (one-plain (h 3 (omega arith)) no-core))) in
+      let few : suc k ≤ suc k = omega arith in
+      let h₀ : Plains T vs ns b d (suc k) cores = one-plain (h 0 (omega arith)) (one-plain (h 1 (omega arith)) (one-plain (h 2 (omega arith)) (one-plain (h 3 (omega arith)) no-core))) in
       let h₁ = others-plain l (first-plain h₀) few s₀ (rest-plain h₀) (o .0) in
       let h₂ = others-plain l₁ (first-plain h₁) few s₁ (rest-plain h₁) (o .1 .0) in
       let h₃ = others-plain l₂ (first-plain h₂) few s₂ (rest-plain h₂) (o .1 .1 .0) in

@@ -2,19 +2,17 @@
 -- come to is one subtraction for each of these VCPUs and one addition to the ticks done.
 use Prim.Native.Nat.{ℕ, _+_, _-_, _<_}
 use mathlib.Core.Path.{_≡_}
-use mathlib.Core.Bool.{Bool, true, false, _||_}
-use mathlib.Core.List.{List, [], _∷_}
+use mathlib.Core.Bool.{Bool, true, _||_}
+use mathlib.Core.List.{List}
 use lib.Dec.{eqb}
 use lib.ListN.{length, set}
 use Rattle.laws.specs.Choice.{if_then_else_}
 use Rattle.board_rules.specs.declared.Board.{Board}
-use Rattle.board_rules.specs.declared.Next.the-variants.{Nobody, To}
-use Rattle.board_rules.specs.declared.BoardAnswer.{BoardAnswer}
-use Rattle.board_rules.specs.declared.BoardAnswer.the-variants.{Granted, Waits, Freed, Left, Shows, Refused}
 use Rattle.board_rules.specs.Board.{seat, leftOf, holds, nextOf}
 use Rattle.board_rules.specs.Events.{answers}
 use Rattle.board_keeps.specs.Fair.{InV, InN}
 use Rattle.clock_rules.specs.Clock.{Timing, Run, doneOf, picked, idles, turn}
+use Rattle.clock_steps.specs.Hands.{anyHandsOn}
 
 -- the mutex for which (v, n) is to ask when it is picked with d ticks done, 0 for none
 abbrev pub dueAt : Timing → Board → ℕ → ℕ → ℕ → ℕ
@@ -50,20 +48,6 @@ pub record Spent (T : Timing) (c : ℕ) (b : Board) (d : List ℕ) (v n k : ℕ)
   pub holder-same : b′ .holder ≡ b .holder
   pub waits-same : b′ .waits ≡ b .waits
   pub done : d′ ≡ (if eqb v 0 then d else set d (seat v n - 1) (doneOf d v n + k))
-
--- a freed mutex goes to a task that waited
-abbrev pub handsOn : BoardAnswer → Bool
-handsOn Granted = false
-handsOn Waits = false
-handsOn (Freed Nobody) = false
-handsOn (Freed (To v n)) = true
-handsOn (Left b o) = false
-handsOn (Shows t v) = false
-handsOn (Refused r) = false
-
-abbrev pub anyHandsOn : List BoardAnswer → Bool
-anyHandsOn [] = false
-anyHandsOn (a ∷ rest) = handsOn a || anyHandsOn rest
 
 -- in core c's turn a mutex is handed on
 abbrev pub turnHandsOn : Timing → ℕ → Run → Bool

@@ -9,8 +9,6 @@ use lib.Dec.{eqb}
 use lib.ListN.{length, getD, set}
 use lib.Seq.{set-getD, set-set, ext-getD}
 use Rattle.laws.specs.Choice.{if_then_else_}
-use Rattle.laws.specs.Range.{listTo}
-use Rattle.laws.specs.RangeLaws.{list-length, list-at}
 use Rattle.plan.specs.Limits.{maxV, mostN}
 use Rattle.board_rules.specs.declared.Board.{Board}
 use Rattle.board_rules.specs.Board.{seat, leftOf}
@@ -48,28 +46,9 @@ spent-one {b₁} {b₂} long s t = (
   s .done ∙ sym (t .done),
 )
 
--- the board of that state
-unfoldable pub spentBoard : Timing → ℕ → Board → List ℕ → ℕ → ℕ → Board
-spentBoard T c b d v k = boardOf (listTo maxV (λ w. if loses T c b d v w then leftOf b w - k else leftOf b w)) (b .over) (b .stopped) (b .holder) (b .waits)
-
 -- and its ticks done
 abbrev pub spentDone : List ℕ → ℕ → ℕ → ℕ → List ℕ
 spentDone d v n k = if eqb v 0 then d else set d (seat v n - 1) (doneOf d v n + k)
-
--- they are such
-pub spent-made : (T : Timing) (c : ℕ) (b : Board) (d : List ℕ) (v n k : ℕ) → length (b .left) ≡ maxV → Spent T c b d v n k (spentBoard T c b d v k) (spentDone d v n k)
-unfolding spentBoard
-spent-made T c b d v n k long = record {
-  left-long = list-length maxV _ ∙ sym long;
-  left = λ w i.
-      let up : suc (w - 1) ≡ w = omega arith in
-      list-at maxV (w - 1) (λ w. if loses T c b d v w then leftOf b w - k else leftOf b w) 0 (omega arith) ∙ ap (λ w. if loses T c b d v w then leftOf b w - k else leftOf b w) up;
-  over-same = refl;
-  stopped-same = refl;
-  holder-same = refl;
-  waits-same = refl;
-  done = refl;
-}
 
 -- no ticks leave the state
 pub spent-none : (T : Timing) (c : ℕ) (b : Board) (d : List ℕ) (v n : ℕ) → Spent T c b d v n 0 b d
@@ -93,22 +72,6 @@ module _ {T : Timing} {c : ℕ} {b : Board} {d : List ℕ} {v n i j : ℕ} {b₁
       let o = done-own s h (m .0) (m .1) long in
       ap (set d₁ (seat v n - 1)) {x = doneOf d₁ v n + k} {y = doneOf d v n + (j + k)} (omega arith)
       ∙ ap (λ y. set y (seat v n - 1) (doneOf d v n + (j + k))) (done-somebody s h) ∙ set-set d (seat v n - 1) (doneOf d v n + j) (doneOf d v n + (j + k))
-
-  -- k ticks after j are j + k
-  pub spent-more : {k : ℕ} {b₂ : Board} {d₂ : List ℕ} → Spent T c b₁ d₁ v n k b₂ d₂ → Spent T c b d v n (j + k) b₂ d₂
-  spent-more {k} {b₂} {d₂} t = record {
-    left-long = t .left-long ∙ s .left-long;
-    left = λ w a.
-        by-test (loses T c b d v w)
-        (λ e. let x = left-lost s w a e in let y = left-lost t w a (loses-alike p s few long w a ∙ e) in omega arith)
-        (λ e. left-kept t w a (loses-alike p s few long w a ∙ e) ∙ left-kept s w a e);
-    over-same = t .over-same ∙ s .over-same;
-    stopped-same = t .stopped-same ∙ s .stopped-same;
-    holder-same = t .holder-same ∙ s .holder-same;
-    waits-same = t .waits-same ∙ s .waits-same;
-    done = by-test (eqb v 0) (λ e. let z = eqb-true v 0 e in done-nobody t z ∙ done-nobody s z)
-        (λ e. let h : 0 < v = let z = eqb-false v 0 e in omega arith in done-somebody t h ∙ done-again k h);
-  }
 
   -- and of j + k ticks k are left after j
   pub spent-rest : {k : ℕ} {b₂ : Board} {d₂ : List ℕ} → Spent T c b d v n (j + k) b₂ d₂ → Spent T c b₁ d₁ v n k b₂ d₂

@@ -1,10 +1,10 @@
--- The text of one tick fits into a buffer of 131,072 bytes, and a last line behind it.
+-- The text of one tick fits into a buffer of 131,072 bytes.
 use Prim.Native.Nat.{ℕ, _≤_}
 use mathlib.Core.Path.{_≡_}
 use mathlib.Core.Bool.{Bool}
 use mathlib.Core.List.{List, _++_}
 use native.Mathlib.Omega.{arith}
-use lib.ListN.{length, length-append}
+use lib.ListN.{length}
 use Rattle.plan.specs.declared.Policy.{Policy}
 use Rattle.plan.specs.declared.OverrunChoice.{OverrunChoice}
 use Rattle.board_rules.specs.View.{factsIn}
@@ -20,7 +20,7 @@ use Rattle.clock_going.specs.Going.{timingBy, Going}
 use Rattle.clock_sizes.specs.Counts.{events-few}
 use Rattle.clock_sizes.specs.Lows.{lines-small}
 
--- the bytes of a buffer for one tick and a last line
+-- the bytes of a buffer for one tick
 abbrev pub tickRoom : ℕ
 tickRoom = 131072
 
@@ -37,16 +37,8 @@ module _ {T : Timing} (p : Paced T) (s : Small (T .facts)) {r : Run} (g : Kept T
     pub tick-room : RoomAt on (tickText T t r) a 0
     tick-room e = omega (arith, tick-text-small)
 
-    -- and for a last line y behind it
-    pub last-room : (y : List ℕ) → length y ≤ 96 → RoomAt on (tickText T t r ++ y) a 0
-    last-room y k e = omega (arith, tick-text-small, length-append (tickText T t r) y)
-
 -- as the clock's lists say the state
 module _ {p : Policy} {o : OverrunChoice} {t x ls os : List ℕ} {ss : List Bool} {hs ws k : List ℕ} (g : Going p o t x ls os ss hs ws k) (s : Small (factsIn p o t)) (i : ℕ) (h : i ≤ maxHorizon) (a : List ℕ) (l : length a ≡ tickRoom) (on : Bool) where
   pub going-room : RoomAt on (tickText (timingBy p o t x) i (runIn ls os ss hs ws k)) a 0
   unfolding timingIn
   going-room = tick-room (g .paced) s (g .running) i h a l on
-
-  pub going-last-room : (y : List ℕ) → length y ≤ 96 → RoomAt on (tickText (timingBy p o t x) i (runIn ls os ss hs ws k) ++ y) a 0
-  unfolding timingIn
-  going-last-room = last-room (g .paced) s (g .running) i h a l on

@@ -1,8 +1,7 @@
 -- Event after event, none of them refused.
-use mathlib.Core.Path.{_≡_, refl, ap, sym, _∙_}
-use mathlib.Core.Bool.{Bool, true, false, true≢false}
+use mathlib.Core.Path.{_≡_, refl}
+use mathlib.Core.Bool.{Bool, true, false}
 use mathlib.Core.List.{List, [], _∷_, _++_}
-use Rattle.plan.specs.declared.Refusal.{Refusal}
 use Rattle.board_rules.specs.Facts.{Facts}
 use Rattle.board_rules.specs.declared.Board.{Board}
 use Rattle.board_rules.specs.declared.Event.{Event}
@@ -19,10 +18,6 @@ isRefusal (Freed w) = false
 isRefusal (Left b o) = false
 isRefusal (Shows t v) = false
 isRefusal (Refused r) = true
-
--- an answer that is no refusal is none for any reason
-pub no-refusal : {a : BoardAnswer} → isRefusal a ≡ false → (r : Refusal) → a ≡ Refused r → ⊥
-no-refusal e r q = true≢false (ap isRefusal (sym q) ∙ e)
 
 -- from board b on, each event in its place is answered and not refused
 abbrev pub Accepted : Facts → Board → List Event → Type 0

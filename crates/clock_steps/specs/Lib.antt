@@ -2,6 +2,7 @@ pub mod InStep
 pub mod Picked
 pub mod Missed
 pub mod Accepted
+pub mod Hands
 pub mod Taken
 pub mod Quiet
 pub mod Supply

@@ -1,9 +1,7 @@
--- No event of another VCPU lowers a VCPU's supply.
-use Prim.Native.Nat.{ℕ, _-_, _≤_}
+-- Every event leaves the overruns of the VCPUs that it does not name.
+use Prim.Native.Nat.{ℕ, _-_}
 use mathlib.Core.Path.{_≡_, refl, ap, _∙_}
-use mathlib.Core.Bool.{true}
 use mathlib.Core.Logic.{⊎-elim}
-use native.Mathlib.Omega.{arith}
 use lib.ListN.{getD}
 use Rattle.laws.specs.BoolLaws.{bool-cases}
 use Rattle.plan.specs.declared.Fault.{Fault}
@@ -15,17 +13,13 @@ use Rattle.board_rules.specs.declared.Event.the-variants.{Ask, Free, Use, Top, 
 use Rattle.board_rules.specs.declared.Next.{Next}
 use Rattle.board_rules.specs.declared.Next.the-variants.{Nobody, To}
 use Rattle.board_rules.specs.declared.Outcome.{Outcome}
-use Rattle.board_rules.specs.Board.{leftOf, overOf, holderOf, holdsGlobal, supply, settled, withHolder, handedTo, grantedLocal, nextGlobal, nextLocal, mayHave, asked, freed, topped, shown, answered, askFault, freeFault, topFault, showFault, step, good}
+use Rattle.board_rules.specs.Board.{overOf, settled, withHolder, handedTo, grantedLocal, nextGlobal, nextLocal, mayHave, asked, freed, topped, shown, answered, askFault, freeFault, topFault, showFault, step}
 use Rattle.board_keeps.specs.Fair.{Fair, InV}
-use Rattle.board_keeps.specs.Shaped.{Shaped}
 use Rattle.board_rules.specs.Change.{over-else}
 use Rattle.board_keeps.specs.Faults.{top-clear}
-use Rattle.board_rules.specs.Settle.{GlobalHold, global-hold, hold-global}
-use Rattle.board_rules.specs.SettleEvents.{OthersKeep}
-use Rattle.board_keeps.specs.Marks.{ownVcpu, own-mark, own-settled}
+use Rattle.board_keeps.specs.Marks.{ownVcpu}
 use Rattle.clock_steps.specs.Taken.{ask-granted, ask-waits, free-global, free-local}
 use Rattle.clock_steps.specs.Quiet.{use-over}
-use Rattle.clock_steps.specs.Supply.{supply-rises}
 
 -- OVERRUNS
 
@@ -87,22 +81,3 @@ step-over {F} f b (Free v n m) w j ne = ap (λ x. getD x (w - 1) 0) (free-over F
 step-over f b (Use v t) w j ne = use-over f b v t w j ne
 step-over f b (Top v) w j ne = top-over f b v w j ne
 step-over {F} f b (Show v n) w j ne = ap (λ x. getD x (w - 1) 0) (show-over F b v n)
-
--- SUPPLY
-
-module _ {F : Facts} {b : Board} (f : Fair F) (s : Shaped b) (g : good F b ≡ true) (e : Event) (w : ℕ) (j : InV w) (ne : w ≡ ownVcpu e → ⊥) where
-  -- the VCPU keeps the global mutexes that it holds
-  keeps-hold : (b′ : Board) → OthersKeep F (ownVcpu e) b b′ → GlobalHold F (holderOf b) w → GlobalHold F (holderOf b′) w
-  keeps-hold b′ k r = record { m = r .m; n = r .n; m-in = r .m-in; n-in = r .n-in; is-global = r .is-global; held = k .hold-kept w (r .n) (r .m) j ne (r .n-in) (r .m-in) (r .is-global) (r .held) }
-
-  -- whatever the event: `free` too, by which another VCPU may get a mutex and loses none
-  pub others-supply : supply F b w ≤ supply F (step F b e .board) w
-  others-supply =
-      ⊎-elim (λ z. rw z (omega arith))
-      (λ r.
-      let b′ = r .0 in
-      let k = r .1 in
-      supply-rises F b (step F b e .board) w
-      (ap (λ x. leftOf x w) (r .2) ∙ (unfold settled in k .left-kept w j ne)) (step-over f b e w j ne) (own-mark f s g e w j ne)
-      (λ h. ap (λ x. holdsGlobal F x w) (r .2) ∙ (unfold settled holdsGlobal in hold-global F b′ w (keeps-hold b′ k (global-hold F b w h)))))
-      (own-settled f s g e)

@@ -8,7 +8,7 @@ use lib.ListN.{length, getD, set}
 use Rattle.plan.specs.declared.Policy.{Policy}
 use Rattle.plan.specs.declared.OverrunChoice.{OverrunChoice}
 use Rattle.board_rules.specs.declared.Board.{Board}
-use Rattle.clock_rules.specs.Clock.{Timing, Run, runFrom}
+use Rattle.clock_rules.specs.Clock.{Timing, Run, cores, afterTurns, runFrom}
 use Rattle.clock_marks.specs.Marks.{boardOf, runIn, doneIn}
 use Rattle.clock_nexts.specs.Nexts.{Quiet}
 use Rattle.clock_going.specs.Going.{timingBy, Going}
@@ -52,7 +52,7 @@ pub record SpentAll (p : Policy) (j : ℕ) (ls k pl ls′ k′ pl′ : List ℕ)
   pub s₃ : Spending p 3 j ls₃ k₃ pl₃ ls′ k′ pl′
 
 module _ {p : Policy} {o : OverrunChoice} {t x os : List ℕ} {ss : List Bool} {hs ws : List ℕ} {c j : ℕ} {ls k pl : List ℕ} (r : Ready p o t x os ss hs ws c j ls k pl) (l : c ≤ 3) where
-  pub ready-needs : Spendable c j ls k pl
+  pub ready-needs : Spendable p c j ls k pl
   ready-needs = spend-needs (r .going) (r .counted) l (r .some) (r .to c (omega arith) l)
 
   module _ {ls′ k′ pl′ : List ℕ} (s : Spending p c j ls k pl ls′ k′ pl′) where
@@ -84,22 +84,27 @@ module _ {p : Policy} {o : OverrunChoice} {t x os : List ℕ} {ss : List Bool} {
   pub ready-last : Ready p o t x os ss hs ws 4 j ls′ k′ pl′
   ready-last = ready-next r₃ (omega arith) (s .s₃)
 
-  -- are those of the run
-  pub all-ticks : (m i : ℕ) → ((y : ℕ) → y < j → Quiet (timingBy p o t x) (i + y)) → runFrom (timingBy p o t x) (j + m) i (runIn ls os ss hs ws k) ≡ runFrom (timingBy p o t x) m (i + j) (runIn ls′ os ss hs ws k′)
+  -- are those of the run, when the first of them is open
+  pub all-ticks : (m i : ℕ) → ((y : ℕ) → y < j - 1 → Quiet (timingBy p o t x) (i + y)) →
+      runFrom (timingBy p o t x) (j - 1 + m) i (afterTurns (timingBy p o t x) cores (runIn ls os ss hs ws k)) ≡ runFrom (timingBy p o t x) m (i + (j - 1)) (runIn ls′ os ss hs ws k′)
   all-ticks m i q =
       let T = timingBy p o t x in
+      let up : j ≡ suc (j - 1) = let y = r .some in omega arith in
       let cell₁ = ready-cell r (omega arith) (s .s₀) in
       let cell₂ = ready-cell r₁ (omega arith) (s .s₁) in
       let cell₃ = ready-cell r₂ (omega arith) (s .s₂) in
-      plain-ticks (r .going .paced) (vcpuCell pl) (taskCell pl) m j i (r .going .running) (λ c l. let z = r .to c (omega arith) l in let y = r .some in plain-less (r .counted .core c l (omega arith)) z) q
-      (ready-spent r (omega arith) (s .s₀))
+      plain-ticks (r .going .paced) (vcpuCell pl) (taskCell pl) m (j - 1) i (r .going .running) (λ c l. let z = r .to c (omega arith) l in let y = r .some in plain-less (r .counted .core c l (omega arith)) (omega arith)) q
+      (subst (λ u. Spent T 0 (boardOf ls os ss hs ws) (doneIn k) (vcpuCell pl 0) (taskCell pl 0) u (boardOf (s .ls₁) os ss hs ws) (doneIn (s .k₁))) up (ready-spent r (omega arith) (s .s₀)))
+      (subst (λ u. Spent T 1 (boardOf (s .ls₁) os ss hs ws) (doneIn (s .k₁)) (vcpuCell pl 1) (taskCell pl 1) u (boardOf (s .ls₂) os ss hs ws) (doneIn (s .k₂))) up
       (subst₂ (λ v n. Spent T 1 (boardOf (s .ls₁) os ss hs ws) (doneIn (s .k₁)) v n j (boardOf (s .ls₂) os ss hs ws) (doneIn (s .k₂))) (cell₁ 5 (λ z. omega arith)) (cell₁ 9 (λ z. omega arith))
-      (ready-spent r₁ (omega arith) (s .s₁)))
+      (ready-spent r₁ (omega arith) (s .s₁))))
+      (subst (λ u. Spent T 2 (boardOf (s .ls₂) os ss hs ws) (doneIn (s .k₂)) (vcpuCell pl 2) (taskCell pl 2) u (boardOf (s .ls₃) os ss hs ws) (doneIn (s .k₃))) up
       (subst₂ (λ v n. Spent T 2 (boardOf (s .ls₂) os ss hs ws) (doneIn (s .k₂)) v n j (boardOf (s .ls₃) os ss hs ws) (doneIn (s .k₃))) (cell₂ 6 (λ z. omega arith) ∙ cell₁ 6 (λ z. omega arith))
-      (cell₂ 10 (λ z. omega arith) ∙ cell₁ 10 (λ z. omega arith)) (ready-spent r₂ (omega arith) (s .s₂)))
+      (cell₂ 10 (λ z. omega arith) ∙ cell₁ 10 (λ z. omega arith)) (ready-spent r₂ (omega arith) (s .s₂))))
+      (subst (λ u. Spent T 3 (boardOf (s .ls₃) os ss hs ws) (doneIn (s .k₃)) (vcpuCell pl 3) (taskCell pl 3) u (boardOf ls′ os ss hs ws) (doneIn k′)) up
       (subst₂ (λ v n. Spent T 3 (boardOf (s .ls₃) os ss hs ws) (doneIn (s .k₃)) v n j (boardOf ls′ os ss hs ws) (doneIn k′))
       (cell₃ 7 (λ z. omega arith) ∙ cell₂ 7 (λ z. omega arith) ∙ cell₁ 7 (λ z. omega arith)) (cell₃ 11 (λ z. omega arith) ∙ cell₂ 11 (λ z. omega arith) ∙ cell₁ 11 (λ z. omega arith))
-      (ready-spent r₃ (omega arith) (s .s₃)))
+      (ready-spent r₃ (omega arith) (s .s₃))))
 
 pub spent-all : {p : Policy} {j : ℕ} {ls k pl ls₁ k₁ pl₁ ls₂ k₂ pl₂ ls₃ k₃ pl₃ ls′ k′ pl′ : List ℕ} → Spending p 0 j ls k pl ls₁ k₁ pl₁ → Spending p 1 j ls₁ k₁ pl₁ ls₂ k₂ pl₂ →
     Spending p 2 j ls₂ k₂ pl₂ ls₃ k₃ pl₃ → Spending p 3 j ls₃ k₃ pl₃ ls′ k′ pl′ → SpentAll p j ls k pl ls′ k′ pl′

@@ -4,26 +4,27 @@ use mathlib.Core.Path.{_≡_, refl, sym, ap, ap₂, subst, _∙_}
 use mathlib.Core.Bool.{Bool, true, false, _&&_, _||_, not}
 use mathlib.Core.List.{List}
 use mathlib.Core.Logic.{_⊎_, ⊎-elim}
+use native.Mathlib.Nat.{eq-zero-or-pos}
 use native.Mathlib.Omega.{arith}
 use borrow.Author.Tests.{eqb-true, eq-eqb, ne-eqb}
 use lib.Dec.{eqb, ltb}
 use lib.ListN.{length, getD, set, length-set}
 use lib.Seq.{getD-set-same, getD-set-other}
 use Rattle.laws.specs.Choice.{if_then_else_}
-use Rattle.laws.specs.BoolLaws.{both, both-left, both-right, miss-right, clash, is-false, both-ways, same-or-not}
+use Rattle.laws.specs.BoolLaws.{both, either-left, both-left, both-right, miss-right, clash, is-false, both-ways, same-or-not}
 use Rattle.laws_picks.specs.Picks.{lowest}
 use Rattle.laws_picks.specs.PickLaws.{lowest-le, lowest-passes, lowest-zero}
 use Rattle.plan.specs.declared.Policy.{Policy}
 use Rattle.board_rules.specs.declared.Board.{Board}
 use Rattle.board_rules.specs.Board.{leftOf, underP}
 use Rattle.board_keeps.specs.Fair.{InV}
-use Rattle.clock_sets.specs.Sets.{inSet, With, Without}
+use Rattle.clock_sets.specs.Sets.{inSet, Without}
 use Rattle.clock_sets.specs.SetLaws.{some-vcpu, in-none}
 use Rattle.clock_rules.specs.Clock.{Timing, idles, isOn, hasReady}
 use Rattle.clock_marks.specs.Marks.{doneIn, Mirrors}
 use Rattle.clock_picks.specs.Picking.{Idlers}
 use Rattle.clock_plains.specs.Plains.{loses}
-use Rattle.clock_strides.specs.Strides.{Idles, Loses, Lost, Within}
+use Rattle.clock_strides.specs.Strides.{Idles, Lost, lostOwn, LostIn, Within}
 
 module _ {s : ℕ} (is-set : s < 65536) (nz : s ≡ 0 → ⊥) {v : ℕ} (e : v ≡ lowest 16 (inSet s)) where
   some : 0 < lowest 16 (inSet s)
@@ -153,20 +154,42 @@ idles-d {p} {k} {c} {r} e z = record {
       ap (λ y. inSet y w) z ∙ in-none w ∙ ap (λ y. y && (isOn T c w && (ltb 0 (leftOf b w) && not (hasReady T b (doneIn k) w)))) (sym (ap underP f ∙ e));
 }
 
--- WHO LOSES: nobody was picked
-pub loses-none : {p : Policy} {k : List ℕ} {c v r : ℕ} → v ≡ 0 → Idles p k c r → Loses p k c v r
-loses-none {p} {k} {c} {v} z h = record {
-  are = λ T x b f m w i. h .are T x b f m w i ∙ ap (λ (t : Bool). t || idles T c b (doneIn k) w) (sym (ne-eqb w v (λ y. let u = i .from in omega arith)));
-}
+-- WHO LOSES: those that idle, and v, which was picked and so does not; nobody was where v is 0
+module _ {p : Policy} {k : List ℕ} {c j r : ℕ} {ls ls₁ : List ℕ} (h : Idles p k c r) (q : Lost ls r j ls₁) where
+  lost-none : {v : ℕ} → v ≡ 0 → LostIn p k c v j ls ls₁
+  lost-none {v} z = record {
+    long = q .long;
+    left = λ T x b f m w i.
+        q .left w i
+        ∙ ap (λ (t : Bool). if t then getD ls (w - 1) 0 - j else getD ls (w - 1) 0)
+        (h .are T x b f m w i ∙ ap (λ (t : Bool). t || idles T c b (doneIn k) w) (sym (ne-eqb w v (λ y. let u = i .from in omega arith))));
+  }
 
--- v was
-pub loses-some : {p : Policy} {k : List ℕ} {c v s r : ℕ} → Idles p k c s → With s v r → Loses p k c v r
-loses-some {p} {k} {c} {v} {s} h q = record {
-  are = λ T x b f m w i. q .names w (i .from) (i .to) ∙ ap (λ (t : Bool). t || eqb w v) (h .are T x b f m w i) ∙ swap (idles T c b (doneIn k) w) (eqb w v);
-}
-  where
-    swap : (x y : Bool) → (x || y) ≡ (y || x)
-    swap true true = refl
-    swap true false = refl
-    swap false true = refl
-    swap false false = refl
+  lost-some : {v : ℕ} → InV v → length ls ≡ 16 → inSet r v ≡ false → LostIn p k c v j ls (set ls₁ (v - 1) (getD ls₁ (v - 1) 0 - j))
+  lost-some {v} i long out = record {
+    long = length-set ls₁ (v - 1) _ ∙ q .long;
+    left = λ T x b f m w a.
+        ⊎-elim
+        (λ z. subst (λ u. getD (set ls₁ (v - 1) (getD ls₁ (v - 1) 0 - j)) (u - 1) 0 ≡ (if loses T c b (doneIn k) v u then getD ls (u - 1) 0 - j else getD ls (u - 1) 0)) (sym z)
+        (getD-set-same ls₁ (v - 1) (getD ls₁ (v - 1) 0 - j) 0 (let e = q .long in let l = i .to in let y = i .from in omega arith)
+        ∙ ap (λ u. u - j) (q .left v i ∙ ap (λ (t : Bool). if t then getD ls (v - 1) 0 - j else getD ls (v - 1) 0) out)
+        ∙ ap (λ (t : Bool). if t then getD ls (v - 1) 0 - j else getD ls (v - 1) 0) (sym (either-left (eqb v v) (idles T c b (doneIn k) v) (eq-eqb v v refl)))))
+        (λ ne.
+        getD-set-other ls₁ (v - 1) (w - 1) (getD ls₁ (v - 1) 0 - j) 0 (λ z. ne (let u = i .from in let y = a .from in omega arith)) ∙ q .left w a
+        ∙ ap (λ (t : Bool). if t then getD ls (w - 1) 0 - j else getD ls (w - 1) 0) (h .are T x b f m w a ∙ ap (λ (t : Bool). t || idles T c b (doneIn k) w) (sym (ne-eqb w v ne))))
+        (same-or-not w v);
+  }
+
+  pub lost-all : {v : ℕ} {ls₂ : List ℕ} → v ≤ 16 → length ls ≡ 16 → (0 < v → inSet r v ≡ false) → ls₂ ≡ lostOwn ls₁ v j → LostIn p k c v j ls ls₂
+  lost-all {v} {ls₂} to long out e =
+      ⊎-elim (λ z. subst (λ y. LostIn p k c v j ls y) (sym (e ∙ ap (λ (t : Bool). if t then ls₁ else set ls₁ (v - 1) (getD ls₁ (v - 1) 0 - j)) (eq-eqb v 0 z))) (lost-none z))
+      (λ l. subst (λ y. LostIn p k c v j ls y) (sym (e ∙ ap (λ (t : Bool). if t then ls₁ else set ls₁ (v - 1) (getD ls₁ (v - 1) 0 - j)) (ne-eqb v 0 (λ z. omega arith))))
+      (lost-some (record { from = omega arith; to = to }) long (out l)))
+      (eq-zero-or-pos v)
+
+-- THE CODE'S VALUES
+pub own-none : (ls : List ℕ) (v j : ℕ) → v ≡ 0 → ls ≡ lostOwn ls v j
+own-none ls v j z = rw (eq-eqb v 0 z)
+
+pub own-some : (ls : List ℕ) (v j : ℕ) {i y : ℕ} → (v ≡ 0 → ⊥) → i ≡ v - 1 → y ≡ getD ls i 0 - j → set ls i y ≡ lostOwn ls v j
+own-some ls v j nz e f = ap₂ (λ a b. set ls a b) e (f ∙ ap (λ a. getD ls a 0 - j) e) ∙ sym (rw (ne-eqb v 0 nz))

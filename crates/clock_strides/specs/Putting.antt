@@ -1,31 +1,33 @@
 -- What is known of a core's turn when it is picked anew.
-use Prim.Native.Nat.{ℕ, zero, suc, _+_, _-_, _*_, _<_, _≤_}
-use mathlib.Core.Path.{_≡_, refl, sym, ap, ap₂, subst, subst₂, _∙_}
+use Prim.Native.Nat.{ℕ, zero, suc, _+_, _-_, _<_, _≤_}
+use mathlib.Core.Path.{_≡_, refl, sym, ap, subst, subst₂, _∙_}
 use mathlib.Core.Bool.{Bool, true, false, true≢false}
 use mathlib.Core.List.{List, [], _∷_}
-use mathlib.Core.Logic.{_⊎_, ⊎-elim}
+use mathlib.Core.Logic.{_⊎_, inl, inr, ⊎-elim}
 use native.Mathlib.Omega.{arith}
 use lib.ListN.{length, getD, set, drop, length-set}
 use lib.Seq.{getD-set-same, getD-set-other}
+use Rattle.laws.specs.Choice.{if_then_else_}
 use Rattle.laws.specs.BoolLaws.{same-or-not}
 use Rattle.plan.specs.declared.Policy.{Policy}
 use Rattle.plan.specs.declared.OverrunChoice.{OverrunChoice}
 use Rattle.board_rules.specs.View.{factsIn}
 use Rattle.board_rules.specs.Events.{answers}
+use Rattle.board_rules.specs.BoardLaws.{next-some}
 use Rattle.board_rules.specs.declared.Board.{Board}
-use Rattle.board_rules.specs.declared.Event.{Event}
 use Rattle.board_keeps.specs.Fair.{InV, InN}
-use Rattle.clock_rules.specs.Clock.{Timing, Run, turn, afterTurn, afterTurns, cores, pickV, pickN, dueOf}
+use Rattle.clock_rules.specs.Clock.{Timing, Run, picked, turn, afterTurn, afterTurns, cores, pickV, pickN, dueOf}
 use Rattle.clock_times.specs.Times.{timingIn, lengthsCell, Ordered}
-use Rattle.clock_marks.specs.Marks.{boardOf, runIn, doneIn, doneCell, placeCell, Ended, Mirrors}
+use Rattle.clock_marks.specs.Marks.{boardOf, runIn, doneIn, doneCell, placeCell, Ended}
 use Rattle.clock_steps.specs.Picked.{Chosen}
 use Rattle.clock_picks.specs.Picking.{PicksV, PicksN}
-use Rattle.clock_going.specs.Going.{timingBy, Going, anyHandsOn}
-use Rattle.clock_asks.specs.PickLaws.{pick-none, pick-chosen, pick-some, task-some, unfinished-cells}
-use Rattle.clock_turns.specs.Turned.{Turned}
-use Rattle.clock_plains.specs.Plains.{Goes, Plain, turnHandsOn}
-use Rattle.clock_alone.specs.Beside.{plain-beside}
-use Rattle.clock_strides.specs.Strides.{plainLength, ticksCell, vcpuCell, taskCell, CountedAt, Counted, Stretch, Idles, Within, Spending, PutAt, Put, Forgot, Strided}
+use Rattle.clock_steps.specs.Hands.{anyHandsOn}
+use Rattle.clock_going.specs.Going.{timingBy, Going}
+use Rattle.clock_asks.specs.Asked.{KnownPick}
+use Rattle.clock_asks.specs.PickLaws.{pick-none, pick-chosen, pick-some, unfinished-cells}
+use Rattle.clock_plains.specs.Plains.{Plain}
+use Rattle.clock_alone.specs.Beside.{plain-beside, picked-beside}
+use Rattle.clock_strides.specs.Strides.{plainLength, ticksCell, vcpuCell, taskCell, CountedAt, PickedAt, Counted, turnOr, turnsOr, Stretch, Idles, Within, Spending, PutAt, Put, Forgot, Strided, Others}
 use Rattle.clock_strides.specs.Reaches.{place-is, goes-for, stretch-less}
 use Rattle.clock_strides.specs.Spending.{spent-going, spent-counted, spent-turn}
 
@@ -86,6 +88,7 @@ module _ {p : Policy} {o : OverrunChoice} {t x ls os : List ℕ} {ss : List Bool
                 goes = λ y. absurd (omega arith);
                 idling = λ y j e. w y j (i .are T x b refl (g .mirrors) y j ∙ e) l′;
               });
+          own-pick = λ l. absurd (let e = q .vcpu in omega arith);
           others = q .others;
         }
 
@@ -110,16 +113,24 @@ module _ {p : Policy} {o : OverrunChoice} {t x ls os : List ℕ} {ss : List Bool
                 goes = λ _. goes-for (factsIn p o t) (y .v-in) (y .n-in) (g .ordered) (g .mirrors) (stretch-less (m .0) few) (let u = m .1 (omega arith) in omega arith);
                 idling = λ u j e. w u j (i .are T x b refl (g .mirrors) u j ∙ e) l′;
               });
+          own-pick = λ l. rw (q .vcpu, q .task) (h .is-pick ∙ next-some v n (λ z. let a = y .n-in .from in omega arith));
           others = q .others;
         }
 
+-- core c's turn where it is made, and where it is not
+turn-taken : {look : Bool} → look ≡ false → (T : Timing) (c : ℕ) (r : Run) → afterTurn T c r ≡ turnOr look T c r
+turn-taken e T c r = sym (ap (λ (z : Bool). if z then r else afterTurn T c r) e)
+
+turn-left : {look : Bool} → look ≡ true → (T : Timing) (c : ℕ) (r : Run) → r ≡ turnOr look T c r
+turn-left e T c r = sym (ap (λ (z : Bool). if z then r else afterTurn T c r) e)
+
 -- A PLAIN TURN
 pub stride-spent : {p : Policy} {o : OverrunChoice} {t x ls os : List ℕ} {ss : List Bool} {hs ws k pl : List ℕ} → Going p o t x ls os ss hs ws k →
-    Counted (timingBy p o t x) (boardOf ls os ss hs ws) (doneIn k) pl → {c : ℕ} → c ≤ 3 → 0 < ticksCell pl c → {ls′ k′ pl′ : List ℕ} → Spending p c 1 ls k pl ls′ k′ pl′ →
-    Strided p o t x (afterTurn (timingBy p o t x) c (runIn ls os ss hs ws k)) ls′ os ss hs ws k′ pl′
-stride-spent g h l m s = record {
+    Counted (timingBy p o t x) (boardOf ls os ss hs ws) (doneIn k) pl → {c : ℕ} → c ≤ 3 → {look : Bool} → look ≡ false → 0 < ticksCell pl c → {ls′ k′ pl′ : List ℕ} → Spending p c 1 ls k pl ls′ k′ pl′ →
+    Strided p o t x (turnOr look (timingBy p o t x) c (runIn ls os ss hs ws k)) ls′ os ss hs ws k′ pl′
+stride-spent {p} {o} {t} {x} {ls} {os} {ss} {hs} {ws} {k} g h {c} l e m s = record {
   going = spent-going g h l (omega arith) (omega arith) s;
-  after = spent-turn g h l m s;
+  after = spent-turn g h l m s ∙ turn-taken e (timingBy p o t x) c (runIn ls os ss hs ws k);
   counted = spent-counted g h l (omega arith) (omega arith) s;
 }
 
@@ -127,69 +138,104 @@ stride-spent g h l m s = record {
 module _ {p : Policy} {o : OverrunChoice} {t x ls os : List ℕ} {ss : List Bool} {hs ws k pl : List ℕ} (g : Going p o t x ls os ss hs ws k)
     (h : Counted (timingBy p o t x) (boardOf ls os ss hs ws) (doneIn k) pl) (c : ℕ) {handed : Bool}
     (none : handed ≡ anyHandsOn (answers (factsIn p o t) (boardOf ls os ss hs ws) (turn (timingBy p o t x) c (runIn ls os ss hs ws k))))
-    {ls′ os′ : List ℕ} {ss′ : List Bool} {hs′ ws′ k′ pl₁ pl₂ : List ℕ} (next : Going p o t x ls′ os′ ss′ hs′ ws′ k′) (after : runIn ls′ os′ ss′ hs′ ws′ k′ ≡ afterTurn (timingBy p o t x) c (runIn ls os ss hs ws k))
-    (f : Forgot handed pl pl₁) (q : Put (timingBy p o t x) (boardOf ls′ os′ ss′ hs′ ws′) (doneIn k′) pl₁ c pl₂) where
+    {ls′ os′ : List ℕ} {ss′ : List Bool} {hs′ ws′ k′ pl′ : List ℕ} (next : Going p o t x ls′ os′ ss′ hs′ ws′ k′) (after : runIn ls′ os′ ss′ hs′ ws′ k′ ≡ afterTurn (timingBy p o t x) c (runIn ls os ss hs ws k))
+    (f : Forgot handed pl pl′) where
   -- the others' turns stay plain where nothing is handed on
-  turn-others : (i : ℕ) → i ≤ 3 → (i ≡ c → ⊥) → CountedAt (timingBy p o t x) (boardOf ls′ os′ ss′ hs′ ws′) (doneIn k′) pl₂ i
+  turn-others : (i : ℕ) → i ≤ 3 → (i ≡ c → ⊥) → CountedAt (timingBy p o t x) (boardOf ls′ os′ ss′ hs′ ws′) (doneIn k′) pl′ i
   unfolding timingIn
   turn-others i l ne m =
-      let e = q .others i l ne in
-      let y = f .kept i l (subst (λ z. 0 < z) (e .0) m) in
+      let y = f .kept i l (inl m) in
       let T = timingBy p o t x in
       let r = runIn ls os ss hs ws k in
-      let a = h .core i l (subst (λ z. 0 < z) (e .0 ∙ ap (λ z. ticksCell z i) (y .1)) m) in
+      let a = h .core i l (subst (λ z. 0 < z) (ap (λ z. ticksCell z i) (y .1)) m) in
       let b = plain-beside (g .paced) r (g .running) i c ne (vcpuCell pl i) (taskCell pl i) (ticksCell pl i) a (sym none ∙ y .0) in
-      rw (e .0 ∙ ap (λ z. ticksCell z i) (y .1), e .1 ∙ ap (λ z. vcpuCell z i) (y .1), e .2 ∙ ap (λ z. taskCell z i) (y .1))
+      rw (ap (λ z. ticksCell z i) (y .1), ap (λ z. vcpuCell z i) (y .1), ap (λ z. taskCell z i) (y .1))
       (subst (λ (z : Run). Plain T i (z .board) (z .done) (vcpuCell pl i) (taskCell pl i) (ticksCell pl i)) (sym after) b)
 
-  counted-then : Counted (timingBy p o t x) (boardOf ls′ os′ ss′ hs′ ws′) (doneIn k′) pl₂
-  counted-then = record {
-    long = q .long ∙ f .long ∙ h .long;
-    core = λ i l. ⊎-elim (λ z. subst (λ y. CountedAt (timingBy p o t x) (boardOf ls′ os′ ss′ hs′ ws′) (doneIn k′) pl₂ y) (sym z) (q .own)) (λ ne. turn-others i l ne) (same-or-not i c);
+  -- and pick the same
+  picks-others : (i : ℕ) → i ≤ 3 → (i ≡ c → ⊥) → PickedAt (timingBy p o t x) (boardOf ls′ os′ ss′ hs′ ws′) (doneIn k′) pl′ i
+  unfolding timingIn
+  picks-others i l ne m =
+      let y = f .kept i l (inr m) in
+      let T = timingBy p o t x in
+      let r = runIn ls os ss hs ws k in
+      let a = h .pick i l (subst (λ z. 0 < z) (ap (λ z. vcpuCell z i) (y .1)) m) in
+      let b = picked-beside (g .paced) r (g .running) i c ne (sym none ∙ y .0) ∙ a in
+      rw (ap (λ z. vcpuCell z i) (y .1), ap (λ z. taskCell z i) (y .1))
+      (ap (λ (z : Run). picked T i (z .board) (z .done)) after ∙ b)
+
+  pub turn-made : {look : Bool} → look ≡ false → Others p o t x c (turnOr look (timingBy p o t x) c (runIn ls os ss hs ws k)) ls′ os′ ss′ hs′ ws′ k′ pl′
+  turn-made e = record { going = next; after = after ∙ turn-taken e (timingBy p o t x) c (runIn ls os ss hs ws k); long = f .long ∙ h .long; core = turn-others; pick = picks-others }
+
+-- A LOOK
+pub turn-looked : {p : Policy} {o : OverrunChoice} {t x ls os : List ℕ} {ss : List Bool} {hs ws k pl : List ℕ} → Going p o t x ls os ss hs ws k →
+    Counted (timingBy p o t x) (boardOf ls os ss hs ws) (doneIn k) pl → (c : ℕ) {look : Bool} → look ≡ true → Others p o t x c (turnOr look (timingBy p o t x) c (runIn ls os ss hs ws k)) ls os ss hs ws k pl
+turn-looked {p} {o} {t} {x} {ls} {os} {ss} {hs} {ws} {k} g h c e = record {
+  going = g;
+  after = turn-left e (timingBy p o t x) c (runIn ls os ss hs ws k);
+  long = h .long;
+  core = λ i l ne. h .core i l;
+  pick = λ i l ne. h .pick i l;
+}
+
+-- WHAT IS KNOWN of core c is put
+module _ {p : Policy} {o : OverrunChoice} {t x : List ℕ} {c : ℕ} {r : Run} {ls os : List ℕ} {ss : List Bool} {hs ws k pl pl′ : List ℕ} (h : Others p o t x c r ls os ss hs ws k pl)
+    (q : Put (timingBy p o t x) (boardOf ls os ss hs ws) (doneIn k) pl c pl′) where
+  put-others : (i : ℕ) → i ≤ 3 → (i ≡ c → ⊥) → CountedAt (timingBy p o t x) (boardOf ls os ss hs ws) (doneIn k) pl′ i
+  put-others i l ne m = let e = q .others i l ne in rw (e .0, e .1, e .2) (h .core i l ne (subst (λ z. 0 < z) (e .0) m))
+
+  put-picks : (i : ℕ) → i ≤ 3 → (i ≡ c → ⊥) → PickedAt (timingBy p o t x) (boardOf ls os ss hs ws) (doneIn k) pl′ i
+  put-picks i l ne m = let e = q .others i l ne in rw (e .1, e .2) (h .pick i l ne (subst (λ z. 0 < z) (e .1) m))
+
+  pub stride-put : Strided p o t x r ls os ss hs ws k pl′
+  stride-put = record {
+    going = h .going;
+    after = h .after;
+    counted = record {
+      long = q .long ∙ h .long;
+      core = λ i l. ⊎-elim (λ z. subst (λ y. CountedAt (timingBy p o t x) (boardOf ls os ss hs ws) (doneIn k) pl′ y) (sym z) (q .own)) (λ ne. put-others i l ne) (same-or-not i c);
+      pick = λ i l. ⊎-elim (λ z. subst (λ y. PickedAt (timingBy p o t x) (boardOf ls os ss hs ws) (doneIn k) pl′ y) (sym z) (q .own-pick)) (λ ne. put-picks i l ne) (same-or-not i c);
+    };
   }
 
-  pub stride-made : Strided p o t x (afterTurn (timingBy p o t x) c (runIn ls os ss hs ws k)) ls′ os′ ss′ hs′ ws′ k′ pl₂
-  stride-made = record { going = next; after = after; counted = counted-then }
+-- NOTHING IS KNOWN: a cell that is cleared
+cleared-cell : (l : List ℕ) (i : ℕ) → getD (set l i 0) i 0 ≡ 0
+cleared-cell [] i = refl
+cleared-cell (a ∷ l) zero = refl
+cleared-cell (a ∷ l) (suc i) = cleared-cell l i
 
--- nothing is known
-pub forgot-all : {handed : Bool} {pl : List ℕ} → 3 < length pl → Forgot handed pl (set (set (set (set pl 0 0) 1 0) 2 0) 3 0)
-forgot-all {handed} {pl} l =
-    let q₁ = set pl 0 0 in
-    let q₂ = set q₁ 1 0 in
-    let q₃ = set q₂ 2 0 in
-    let q₄ = set q₃ 3 0 in
-    let e₁ = length-set pl 0 0 in
-    let e₂ = length-set q₁ 1 0 in
-    let e₃ = length-set q₂ 2 0 in
-    record { long = length-set q₃ 3 0 ∙ e₃ ∙ e₂ ∙ e₁; kept = λ i m s. absurd (zeros i m s) }
-  where
-    zeros : (i : ℕ) → i ≤ 3 → 0 < ticksCell (set (set (set (set pl 0 0) 1 0) 2 0) 3 0) i → ⊥
-    zeros zero m s =
-        let e = getD-set-other (set (set (set pl 0 0) 1 0) 2 0) 3 0 0 0 (λ z. omega arith) ∙ getD-set-other (set (set pl 0 0) 1 0) 2 0 0 0 (λ z. omega arith) ∙ getD-set-other (set pl 0 0) 1 0 0 0 (λ z. omega arith) ∙ getD-set-same pl 0 0 0 (omega arith) in
-        omega arith
-    zeros (suc zero) m s =
-        let e₁ = length-set pl 0 0 in
-        let e = getD-set-other (set (set (set pl 0 0) 1 0) 2 0) 3 1 0 0 (λ z. omega arith) ∙ getD-set-other (set (set pl 0 0) 1 0) 2 1 0 0 (λ z. omega arith) ∙ getD-set-same (set pl 0 0) 1 0 0 (omega arith) in
-        omega arith
-    zeros (suc (suc zero)) m s =
-        let e₁ = length-set pl 0 0 in
-        let e₂ = length-set (set pl 0 0) 1 0 in
-        let e = getD-set-other (set (set (set pl 0 0) 1 0) 2 0) 3 2 0 0 (λ z. omega arith) ∙ getD-set-same (set (set pl 0 0) 1 0) 2 0 0 (omega arith) in
-        omega arith
-    zeros (suc (suc (suc zero))) m s =
-        let e₁ = length-set pl 0 0 in
-        let e₂ = length-set (set pl 0 0) 1 0 in
-        let e₃ = length-set (set (set pl 0 0) 1 0) 2 0 in
-        let e = getD-set-same (set (set (set pl 0 0) 1 0) 2 0) 3 0 0 (omega arith) in
-        omega arith
-    zeros (suc (suc (suc (suc i)))) m s = absurd (omega arith)
+-- and those below it that were
+cleared-to : (l : List ℕ) (j i : ℕ) → (i < j → getD l i 0 ≡ 0) → i < suc j → getD (set l j 0) i 0 ≡ 0
+cleared-to l j i f m = ⊎-elim (λ e. ap (λ a. getD (set l a 0) i 0) (sym e) ∙ cleared-cell l i) (λ ne. getD-set-other l j i 0 0 ne ∙ f (omega arith)) (same-or-not i j)
+
+-- the cells before i are cleared
+pub record Clearing (pl : List ℕ) (i : ℕ) (pl′ : List ℕ) : Type 0 where
+  pub to : i ≤ 8
+  pub long : length pl′ ≡ length pl
+  pub zeros : (j : ℕ) → j < i → getD pl′ j 0 ≡ 0
+
+pub clearing-first : (pl : List ℕ) → Clearing pl 0 pl
+clearing-first pl = record { to = omega arith; long = refl; zeros = λ j m. absurd (omega arith) }
+
+pub clearing-more : {pl pl′ : List ℕ} {i : ℕ} → Clearing pl i pl′ → i < 8 → Clearing pl (i + 1) (set pl′ i 0)
+clearing-more {pl} {pl′} {i} g l = record { to = omega arith; long = length-set pl′ i 0 ∙ g .long; zeros = λ j m. cleared-to pl′ i j (g .zeros j) (omega arith) }
+
+pub forgot-all : {handed : Bool} {pl pl′ : List ℕ} {i : ℕ} → Clearing pl i pl′ → 8 ≤ i → Forgot handed pl pl′
+forgot-all g l = record {
+  long = g .long;
+  kept = λ j m s. absurd (⊎-elim (λ a. let e = g .zeros j (omega arith) in omega arith) (λ a. let e = g .zeros (4 + j) (omega arith) in omega arith) s);
+}
 
 pub forgot-handed : {handed : Bool} {pl pl′ : List ℕ} → handed ≡ true → Forgot true pl pl′ → Forgot handed pl pl′
 forgot-handed {handed} {pl} {pl′} e f = subst (λ z. Forgot z pl pl′) (sym e) f
 
 -- what is forgotten is right
 pub forgot-counted : {T : Timing} {b : Board} {d pl pl′ : List ℕ} → length pl ≡ plainLength → Forgot true pl pl′ → Counted T b d pl′
-forgot-counted l f = record { long = f .long ∙ l; core = λ i m s. absurd (true≢false (f .kept i m s .0)) }
+forgot-counted l f = record { long = f .long ∙ l; core = λ i m s. absurd (true≢false (f .kept i m (inl s) .0)); pick = λ i m s. absurd (true≢false (f .kept i m (inr s) .0)) }
+
+-- THE PICK that a turn may begin with
+pub known-pick : {T : Timing} {b : Board} {d pl : List ℕ} → Counted T b d pl → (c : ℕ) → c ≤ 3 → {v n : ℕ} → v ≡ vcpuCell pl c → n ≡ taskCell pl c → KnownPick T c b d v n
+known-pick {T} {b} {d} h c l e f = subst₂ (λ v n. KnownPick T c b d v n) (sym e) (sym f) (h .pick c l)
 
 -- ALL TURNS, from core 0 up: the cores from number c on
 abbrev pub from : ℕ → List ℕ
@@ -202,30 +248,39 @@ from-more (suc (suc zero)) l = refl
 from-more (suc (suc (suc zero))) l = refl
 from-more (suc (suc (suc (suc c)))) l = absurd (omega arith)
 
+-- core after core
+turns-more : (look : Bool) (T : Timing) (c : ℕ) (cs : List ℕ) (r : Run) → turnsOr look T (c ∷ cs) r ≡ turnsOr look T cs (turnOr look T c r)
+unfolding afterTurns
+turns-more true T c cs r = refl
+turns-more false T c cs r = refl
+
+turns-end : (look : Bool) (T : Timing) (r : Run) → turnsOr look T [] r ≡ r
+unfolding afterTurns
+turns-end true T r = refl
+turns-end false T r = refl
+
 -- the turns of those below are made, from the state r on
-pub record RestOn (p : Policy) (o : OverrunChoice) (t x : List ℕ) (r : Run) (c : ℕ) (ls os : List ℕ) (ss : List Bool) (hs ws k pl : List ℕ) : Type 0 where
+pub record RestOn (look : Bool) (p : Policy) (o : OverrunChoice) (t x : List ℕ) (r : Run) (c : ℕ) (ls os : List ℕ) (ss : List Bool) (hs ws k pl : List ℕ) : Type 0 where
   pub to-core : c ≤ 4
   pub going : Going p o t x ls os ss hs ws k
   pub counted : Counted (timingBy p o t x) (boardOf ls os ss hs ws) (doneIn k) pl
-  pub after : afterTurns (timingBy p o t x) (from c) (runIn ls os ss hs ws k) ≡ afterTurns (timingBy p o t x) cores r
+  pub after : turnsOr look (timingBy p o t x) (from c) (runIn ls os ss hs ws k) ≡ turnsOr look (timingBy p o t x) cores r
 
-module _ {p : Policy} {o : OverrunChoice} {t x : List ℕ} {r : Run} {c : ℕ} {ls os : List ℕ} {ss : List Bool} {hs ws k pl : List ℕ} (g : RestOn p o t x r c ls os ss hs ws k pl) where
-  pub rest-last : c ≡ 4 → Strided p o t x (afterTurns (timingBy p o t x) cores r) ls os ss hs ws k pl
-  unfolding afterTurns
+module _ {look : Bool} {p : Policy} {o : OverrunChoice} {t x : List ℕ} {r : Run} {c : ℕ} {ls os : List ℕ} {ss : List Bool} {hs ws k pl : List ℕ} (g : RestOn look p o t x r c ls os ss hs ws k pl) where
+  pub rest-last : c ≡ 4 → Strided p o t x (turnsOr look (timingBy p o t x) cores r) ls os ss hs ws k pl
   rest-last e = record {
     going = g .going;
     counted = g .counted;
-    after = sym (ap (λ z. afterTurns (timingBy p o t x) (from z) (runIn ls os ss hs ws k)) e) ∙ g .after;
+    after = sym (ap (λ z. turnsOr look (timingBy p o t x) (from z) (runIn ls os ss hs ws k)) e ∙ turns-end look (timingBy p o t x) (runIn ls os ss hs ws k)) ∙ g .after;
   }
 
-  pub rest-more : c < 4 → {ls′ os′ : List ℕ} {ss′ : List Bool} {hs′ ws′ k′ pl′ : List ℕ} → Strided p o t x (afterTurn (timingBy p o t x) c (runIn ls os ss hs ws k)) ls′ os′ ss′ hs′ ws′ k′ pl′ →
-      RestOn p o t x r (c + 1) ls′ os′ ss′ hs′ ws′ k′ pl′
-  unfolding afterTurns
+  pub rest-more : c < 4 → {ls′ os′ : List ℕ} {ss′ : List Bool} {hs′ ws′ k′ pl′ : List ℕ} → Strided p o t x (turnOr look (timingBy p o t x) c (runIn ls os ss hs ws k)) ls′ os′ ss′ hs′ ws′ k′ pl′ →
+      RestOn look p o t x r (c + 1) ls′ os′ ss′ hs′ ws′ k′ pl′
   rest-more l s =
       let T = timingBy p o t x in
       record {
         to-core = omega arith;
         going = s .going;
         counted = s .counted;
-        after = ap (afterTurns T (from (c + 1))) (s .after) ∙ sym (ap (λ z. afterTurns T z (runIn ls os ss hs ws k)) (from-more c l)) ∙ g .after;
+        after = ap (turnsOr look T (from (c + 1))) (s .after) ∙ sym (ap (λ z. turnsOr look T z (runIn ls os ss hs ws k)) (from-more c l) ∙ turns-more look T c (from (c + 1)) (runIn ls os ss hs ws k)) ∙ g .after;
       }

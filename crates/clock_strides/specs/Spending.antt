@@ -6,30 +6,34 @@ use mathlib.Core.List.{List}
 use mathlib.Core.Logic.{_⊎_, ⊎-elim}
 use native.Mathlib.Nat.{eq-zero-or-pos}
 use native.Mathlib.Omega.{arith}
-use borrow.Author.Tests.{eq-eqb, ne-eqb, le-leb}
+use borrow.Author.Tests.{eq-eqb, ne-eqb, le-leb, not-true}
 use lib.Dec.{eqb, ltb}
 use lib.ListN.{length, getD, set, length-set}
 use lib.Seq.{getD-set-same, getD-set-other}
 use Rattle.laws.specs.Choice.{if_then_else_, when}
-use Rattle.laws.specs.BoolLaws.{both, same-or-not}
+use Rattle.laws.specs.RangeLaws.{any-hit}
+use Rattle.laws.specs.BoolLaws.{both-right, is-false, clash, same-or-not}
 use Rattle.plan.specs.Limits.{maxV, mostN}
 use Rattle.plan.specs.declared.Policy.{Policy}
 use Rattle.plan.specs.declared.OverrunChoice.{OverrunChoice}
 use Rattle.board_seats.specs.Seats.{isV, isN, seat}
 use Rattle.board_rules.specs.View.{factsIn}
 use Rattle.board_rules.specs.declared.Board.{Board}
+use Rattle.board_rules.specs.Board.{leftOf, underP}
 use Rattle.board_keeps.specs.Fair.{InV, InN}
-use Rattle.clock_rules.specs.Clock.{Timing, Run, afterTurn, doneOf}
+use Rattle.clock_rules.specs.Clock.{Timing, Run, afterTurn, doneOf, isReady, hasReady, isOn, idles}
 use Rattle.clock_times.specs.Times.{timingIn, lengthsCell, Paired}
 use Rattle.clock_marks.specs.Marks.{boardOf, runIn, doneIn, doneCell, placeCell, Ended, Sized, Mirrors}
 use Rattle.clock_steps.specs.Done.{by-seat}
 use Rattle.clock_going.specs.Going.{timingBy, Going}
 use Rattle.clock_plains.specs.Plains.{Goes, Plain, Spent, loses}
 use Rattle.clock_plains.specs.SpentLaws.{spentDone}
-use Rattle.clock_plains.specs.PlainLaws.{plain-later, plain-other}
+use Rattle.clock_plains.specs.PlainLaws.{plain-chosen, spent-alike, plain-later, plain-other}
+use Rattle.clock_plains.specs.Alike.{picked-alike}
 use Rattle.clock_plains.specs.PlainTurn.{plain-turn, spent-running}
 use Rattle.clock_plains.specs.PlainMirrors.{keptAfter, plain-mirrors, plain-done}
-use Rattle.clock_strides.specs.Strides.{ticksCell, vcpuCell, taskCell, CountedAt, Counted, Loses, Lost, LostIn, Spending, Spendable}
+use Rattle.clock_strides.specs.Strides.{ticksCell, vcpuCell, taskCell, CountedAt, PickedAt, Counted, Idles, Lost, lostOwn, LostIn, Spending, Spendable}
+use Rattle.clock_strides.specs.Losing.{lost-all}
 use Rattle.clock_strides.specs.Reaches.{goes-ended}
 
 -- fewer ticks
@@ -66,7 +70,8 @@ module _ {p : Policy} {o : OverrunChoice} {t x ls os : List ℕ} {ss : List Bool
   plain-now = plain-less plain-all to
 
   -- it may be spent
-  pub spend-needs : Spendable c j ls k pl
+  pub spend-needs : Spendable p c j ls k pl
+  unfolding timingIn factsIn
   spend-needs = record {
     left-long = g .running .shaped .left-long;
     sized = g .mirrors .sized;
@@ -74,6 +79,15 @@ module _ {p : Policy} {o : OverrunChoice} {t x ls os : List ℕ} {ss : List Bool
     c-to = c-to;
     v-to = ⊎-elim (λ z. omega arith) (λ l. plain-now .goes l .v-in .to) (eq-zero-or-pos (vcpuCell pl c));
     n-to = ⊎-elim (λ z. let y = plain-now .nobody z in omega arith) (λ l. plain-now .goes l .n-in .to) (eq-zero-or-pos (vcpuCell pl c));
+    busy = λ l r e.
+        let q = plain-chosen plain-now l in
+        let b = boardOf ls os ss hs ws in
+        let T = timingBy p o t x in
+        let v = vcpuCell pl c in
+        e .are T x b refl (g .mirrors) v (q .v-in)
+        ∙ is-false (idles T c b (doneIn k) v)
+        (λ i. clash (any-hit mostN (taskCell pl c) (isReady T b (doneIn k) v) (q .n-in .from) (q .n-in .to) (q .ready))
+        (not-true (hasReady T b (doneIn k) v) (both-right (ltb 0 (leftOf b v)) _ (both-right (isOn T c v) _ (both-right (underP p) _ i)))));
     done-to = λ l.
         let q = plain-now .goes l in
         let e = by-seat (λ v n. doneCell k v n) (vcpuCell pl c) (taskCell pl c) (q .v-in) (q .n-in) in
@@ -94,8 +108,8 @@ module _ {p : Policy} {o : OverrunChoice} {t x ls os : List ℕ} {ss : List Bool
         let T = timingBy p o t x in
         let b = boardOf ls os ss hs ws in
         record {
-          left-long = s .lost .lost .long;
-          left = λ w i. s .lost .lost .left w i ∙ ap (λ (y : Bool). if y then getD ls (w - 1) 0 - j else getD ls (w - 1) 0) (s .lost .says .are T x b refl (g .mirrors) w i);
+          left-long = s .lost .long;
+          left = s .lost .left T x b refl (g .mirrors);
           over-same = refl;
           stopped-same = refl;
           holder-same = refl;
@@ -132,6 +146,10 @@ module _ {p : Policy} {o : OverrunChoice} {t x ls os : List ℕ} {ss : List Bool
       long = ap length (s .plain) ∙ length-set pl c (ticksCell pl c - j) ∙ h .long;
       core = λ i l.
           ⊎-elim (λ z. subst (λ y. CountedAt T b′ (doneIn k′) pl′ y) (sym z) own) (λ ne. other i l ne) (same-or-not i c);
+      pick = λ i l.
+          let u : vcpuCell pl′ i ≡ vcpuCell pl i = other-cell (4 + i) (λ z. omega arith) in
+          let w : taskCell pl′ i ≡ taskCell pl i = other-cell (8 + i) (λ z. omega arith) in
+          λ m. rw (u, w) (picked-alike (spent-alike plain-now spent-is (omega arith) long) i ∙ h .pick i l (omega arith));
     }
       where
         T : Timing
@@ -175,16 +193,16 @@ more-some k v n j {i} {y} {s} nz e f h =
     let z : i ≡ 163 + seat v n = omega arith in
     ap₂ (λ a b. set k a b) z (h ∙ ap (λ a. getD k a 0 + j) z) ∙ sym (rw (ne-eqb v 0 nz))
 
-pub spending-is : {p : Policy} {c j v n r i y : ℕ} {ls k pl ls′ k′ : List ℕ} → v ≡ vcpuCell pl c → n ≡ taskCell pl c → Loses p k c v r → Lost ls r j ls′ → k′ ≡ keptAfter k v n j → i ≡ c → y ≡ getD pl i 0 - j →
-    Spending p c j ls k pl ls′ k′ (set pl i y)
-spending-is {p} {c} {j} {v} {n} {r} {i} {y} {ls} {k} {pl} {ls′} {k′} e f a b m z w = record {
-  lost = record { who = r; says = subst (λ u. Loses p k c u r) e a; lost = b };
+pub spending-is : {p : Policy} {c j v n r i y : ℕ} {ls k pl ls₁ ls′ k′ : List ℕ} → Spendable p c j ls k pl → v ≡ vcpuCell pl c → n ≡ taskCell pl c → Idles p k c r → Lost ls r j ls₁ → ls′ ≡ lostOwn ls₁ v j →
+    k′ ≡ keptAfter k v n j → i ≡ c → y ≡ getD pl i 0 - j → Spending p c j ls k pl ls′ k′ (set pl i y)
+spending-is {p} {c} {j} {v} {n} {r} {i} {y} {ls} {k} {pl} {ls₁} {ls′} {k′} s e f a b own m z w = record {
+  lost = lost-all a b (s .v-to) (s .left-long) (λ l. s .busy l r a) (own ∙ ap (λ u. lostOwn ls₁ u j) e);
   marks = m ∙ ap₂ (λ u q. keptAfter k u q j) e f;
   plain = ap₂ (λ u q. set pl u q) z (w ∙ ap (λ u. getD pl u 0 - j) z);
 }
 
-pub put-needs : {c j v n : ℕ} {ls k pl : List ℕ} → Spendable c j ls k pl → v ≡ vcpuCell pl c → n ≡ taskCell pl c → Sized k × (v ≤ 16) × (n ≤ 8) × (0 < v → doneCell k v n + j ≤ 17000000)
-put-needs {c} {j} {v} {n} {ls} {k} {pl} s e f =
+pub put-needs : {p : Policy} {c j v n : ℕ} {ls k pl : List ℕ} → Spendable p c j ls k pl → v ≡ vcpuCell pl c → n ≡ taskCell pl c → Sized k × (v ≤ 16) × (n ≤ 8) × (0 < v → doneCell k v n + j ≤ 17000000)
+put-needs {p} {c} {j} {v} {n} {ls} {k} {pl} s e f =
     let a = s .v-to in
     let b = s .n-to in
     (s .sized, omega arith, omega arith, λ l. subst₂ (λ u q. doneCell k u q + j ≤ 17000000) (sym e) (sym f) (s .done-to (omega arith)))

@@ -4,21 +4,22 @@ use board_seats::seat;
 use plan::OverrunChoice;
 use plan::Policy;
 ghost use mathlib.Core.Path.{_≡_};
-ghost use mathlib.Core.Bool.{true};
+ghost use mathlib.Core.Bool.{true, false};
 ghost use lib.ListN.{length, getD, set};
 ghost use Rattle.board_supply.specs.Supplies.{underP};
 ghost use Prim.Native.Nat.{ℕ, _+_, _-_, _<_, _≤_};
 ghost use Rattle.board_keeps.specs.Fair.{InV, InN};
 ghost use Rattle.clock_times.specs.Times.{lengthsCell, Ordered};
 ghost use Rattle.clock_marks.specs.Marks.{boardOf, runIn, doneIn, doneCell, placeCell, Ended, Sized};
+ghost use Rattle.clock_nexts.specs.Nexts as nexts;
 ghost use Rattle.clock_rules.specs.Clock as clock;
 ghost use Rattle.clock_going.specs.Going.{timingBy, Going};
 ghost use Rattle.clock_plains.specs.PlainMirrors.{keptAfter};
-ghost use Rattle.clock_strides.specs.Strides.{plainLength, ticksCell, vcpuCell, taskCell, Stretch, Idles, Loses, Lost, LostIn, Within, Spendable, Spending, Counted, PutAt, Put, Forgot, Strided};
+ghost use Rattle.clock_strides.specs.Strides.{plainLength, ticksCell, vcpuCell, taskCell, Stretch, Idles, Lost, lostOwn, Within, Spendable, Spending, Counted, PutAt, Put, Forgot, turnOr, turnsOr, Strided, Others};
 ghost use Rattle.clock_strides.specs.AllSpending.{AllReady, SpentAll};
 
 pub fn sooner(a: u64, b: u64) -> u64
-    ensures { λ r. ⌜ (r ≤ a) × (r ≤ b) ⌝ }
+    ensures { λ r. ⌜ (r ≤ a) × (r ≤ b) × (r ≡ nexts.sooner a b) ⌝ }
 {
     if a < b { a } else { b }
 }
@@ -84,18 +85,6 @@ fn idling(policy: Policy, marks: &[u64], c: u64) -> u64
     0
 }
 
-// With v, which was picked, those that lose a tick; v is 0 where nobody was.
-fn losing(policy: Policy, marks: &[u64], c: u64, v: u64) -> u64
-    requires { ⌜ Sized (now marks) × (c ≤ 3) × (v ≤ 16) ⌝ }
-    ensures { λ r. ⌜ (r < 65536) × Loses policy (now (marks .entry)) c v r ⌝ }
-{
-    let idle = idling(policy, marks, c);
-    if v == 0 {
-        return idle;
-    }
-    clock_sets::with(idle, v)
-}
-
 // No more than k ticks, and fewer than each of the set has left.
 fn bound(left: &[u64], set: u64, k: u64) -> u64
     requires { ⌜ set < 65536 ⌝ }
@@ -125,6 +114,18 @@ fn lose(left: &mut [u64], set: u64, k: u64)
     }
 }
 
+// v, which was picked, loses k ticks; nobody was where v is 0.
+fn lose_own(left: &mut [u64], v: u64, k: u64)
+    requires { ⌜ (length (now left) ≡ 16) × (v ≤ 16) ⌝ }
+    ensures { λ r. ⌜ now (left .exit) ≡ lostOwn (now (left .entry)) v k ⌝ }
+{
+    if v == 0 {
+        return;
+    }
+    let i = v as usize - 1;
+    left[i] = board_seats::sub(left[i], k);
+}
+
 // The job of (v, n) has k more ticks done; nobody's has where v is 0.
 fn put_more(marks: &mut [u64], v: u64, n: u64, k: u64)
     requires { ⌜ Sized (now marks) × (v ≤ 16) × (n ≤ 8) × (0 < v → doneCell (now marks) v n + k ≤ 17000000) ⌝ }
@@ -140,13 +141,14 @@ fn put_more(marks: &mut [u64], v: u64, n: u64, k: u64)
 
 // k ticks of core c's turn.
 fn spend(policy: Policy, left: &mut [u64], marks: &mut [u64], plain: &mut [u64], c: u64, k: u64)
-    requires { ⌜ Spendable c k (now left) (now marks) (now plain) ⌝ }
+    requires { ⌜ Spendable policy c k (now left) (now marks) (now plain) ⌝ }
     ensures { λ r. ⌜ Spending policy c k (now (left .entry)) (now (marks .entry)) (now (plain .entry)) (now (left .exit)) (now (marks .exit)) (now (plain .exit)) ⌝ }
 {
     let v = at(plain, 4 + c);
     let n = at(plain, 8 + c);
-    let set = losing(policy, marks, c, v);
-    lose(left, set, k);
+    let idle = idling(policy, marks, c);
+    lose(left, idle, k);
+    lose_own(left, v, k);
     put_more(marks, v, n, k);
     let i = c as usize;
     plain[i] = board_seats::sub(plain[i], k);
@@ -199,10 +201,11 @@ pub fn forget(plain: &mut [u64])
     requires { ⌜ length (now plain) ≡ plainLength ⌝ }
     ensures { λ r. ⌜ Forgot true (now (plain .entry)) (now (plain .exit)) ⌝ }
 {
-    plain[0] = 0;
-    plain[1] = 0;
-    plain[2] = 0;
-    plain[3] = 0;
+    let mut i: usize = 0;
+    while i < 8 {
+        plain[i] = 0;
+        i += 1;
+    }
 }
 
 // A mutex that is handed on makes a task ready on any core.
@@ -216,8 +219,8 @@ fn forget_if(handed: bool, plain: &mut [u64])
     }
 }
 
-// Core c's turn at tick t.
-fn turn_on(
+// Core c's turn at tick t, with whether all is known of it then. Where `look`, it takes none.
+fn taken(
     policy: Policy,
     choice: OverrunChoice,
     view: &[u64],
@@ -231,13 +234,17 @@ fn turn_on(
     plain: &mut [u64],
     c: u64,
     t: u64,
-)
+    look: bool,
+) -> bool
     requires { ⌜ Going policy choice (now view) (now times) (now left) (now over) (now stopped) (now holder) (now waits) (now marks) × Counted (timingBy policy choice (now view) (now times)) (boardOf (now left) (now over) (now stopped) (now holder) (now waits)) (doneIn (now marks)) (now plain) × (c ≤ 3) ⌝ }
-    ensures { λ r. ⌜ Strided policy choice (now (view .entry)) (now (times .entry)) (clock.afterTurn (timingBy policy choice (now (view .entry)) (now (times .entry))) c (runIn (now (left .entry)) (now (over .entry)) (now (stopped .entry)) (now (holder .entry)) (now (waits .entry)) (now (marks .entry)))) (now (left .exit)) (now (over .exit)) (now (stopped .exit)) (now (holder .exit)) (now (waits .exit)) (now (marks .exit)) (now (plain .exit)) ⌝ }
+    ensures { λ r. ⌜ (r ≡ true → Strided policy choice (now (view .entry)) (now (times .entry)) (turnOr look (timingBy policy choice (now (view .entry)) (now (times .entry))) c (runIn (now (left .entry)) (now (over .entry)) (now (stopped .entry)) (now (holder .entry)) (now (waits .entry)) (now (marks .entry)))) (now (left .exit)) (now (over .exit)) (now (stopped .exit)) (now (holder .exit)) (now (waits .exit)) (now (marks .exit)) (now (plain .exit))) × (r ≡ false → Others policy choice (now (view .entry)) (now (times .entry)) c (turnOr look (timingBy policy choice (now (view .entry)) (now (times .entry))) c (runIn (now (left .entry)) (now (over .entry)) (now (stopped .entry)) (now (holder .entry)) (now (waits .entry)) (now (marks .entry)))) (now (left .exit)) (now (over .exit)) (now (stopped .exit)) (now (holder .exit)) (now (waits .exit)) (now (marks .exit)) (now (plain .exit))) ⌝ }
 {
+    if look {
+        return false;
+    }
     if 0 < at(plain, c) {
         spend(policy, left, marks, plain, c, 1);
-        return;
+        return true;
     }
     let mut none = [0u8; 1];
     let r = clock_turns::turn(
@@ -253,11 +260,55 @@ fn turn_on(
         waits,
         marks,
         c,
+        at(plain, 4 + c),
+        at(plain, 8 + c),
         t,
         &mut none,
         0,
     );
     forget_if(r.handed, plain);
+    false
+}
+
+// The same, and it is found out for how long core c's turn stays the same.
+fn turn_on(
+    policy: Policy,
+    choice: OverrunChoice,
+    view: &[u64],
+    times: &[u64],
+    left: &mut [u64],
+    over: &mut [u64],
+    stopped: &mut [bool],
+    holder: &mut [u16],
+    waits: &mut [u8],
+    marks: &mut [u64],
+    plain: &mut [u64],
+    c: u64,
+    t: u64,
+    look: bool,
+)
+    requires { ⌜ Going policy choice (now view) (now times) (now left) (now over) (now stopped) (now holder) (now waits) (now marks) × Counted (timingBy policy choice (now view) (now times)) (boardOf (now left) (now over) (now stopped) (now holder) (now waits)) (doneIn (now marks)) (now plain) × (c ≤ 3) ⌝ }
+    ensures { λ r. ⌜ Strided policy choice (now (view .entry)) (now (times .entry)) (turnOr look (timingBy policy choice (now (view .entry)) (now (times .entry))) c (runIn (now (left .entry)) (now (over .entry)) (now (stopped .entry)) (now (holder .entry)) (now (waits .entry)) (now (marks .entry)))) (now (left .exit)) (now (over .exit)) (now (stopped .exit)) (now (holder .exit)) (now (waits .exit)) (now (marks .exit)) (now (plain .exit)) ⌝ }
+{
+    let whole = taken(
+        policy,
+        choice,
+        view,
+        times,
+        left,
+        over,
+        stopped,
+        holder,
+        waits,
+        marks,
+        plain,
+        c,
+        t,
+        look,
+    );
+    if whole {
+        return;
+    }
     put_plain(
         policy,
         choice,
@@ -274,7 +325,7 @@ fn turn_on(
     );
 }
 
-// The turns of cores 0 to 3 at tick t.
+// The turns of cores 0 to 3 at tick t, or a look at them.
 pub fn turns_on(
     policy: Policy,
     choice: OverrunChoice,
@@ -288,9 +339,10 @@ pub fn turns_on(
     marks: &mut [u64],
     plain: &mut [u64],
     t: u64,
+    look: bool,
 )
     requires { ⌜ Going policy choice (now view) (now times) (now left) (now over) (now stopped) (now holder) (now waits) (now marks) × Counted (timingBy policy choice (now view) (now times)) (boardOf (now left) (now over) (now stopped) (now holder) (now waits)) (doneIn (now marks)) (now plain) ⌝ }
-    ensures { λ r. ⌜ Strided policy choice (now (view .entry)) (now (times .entry)) (clock.afterTurns (timingBy policy choice (now (view .entry)) (now (times .entry))) clock.cores (runIn (now (left .entry)) (now (over .entry)) (now (stopped .entry)) (now (holder .entry)) (now (waits .entry)) (now (marks .entry)))) (now (left .exit)) (now (over .exit)) (now (stopped .exit)) (now (holder .exit)) (now (waits .exit)) (now (marks .exit)) (now (plain .exit)) ⌝ }
+    ensures { λ r. ⌜ Strided policy choice (now (view .entry)) (now (times .entry)) (turnsOr look (timingBy policy choice (now (view .entry)) (now (times .entry))) clock.cores (runIn (now (left .entry)) (now (over .entry)) (now (stopped .entry)) (now (holder .entry)) (now (waits .entry)) (now (marks .entry)))) (now (left .exit)) (now (over .exit)) (now (stopped .exit)) (now (holder .exit)) (now (waits .exit)) (now (marks .exit)) (now (plain .exit)) ⌝ }
 {
     let mut c: u64 = 0;
     while c < 4 {
@@ -308,6 +360,7 @@ pub fn turns_on(
             plain,
             c,
             t,
+            look,
         );
         c += 1;
     }

@@ -4,15 +4,14 @@ use plan::OverrunChoice;
 use plan::Policy;
 ghost use mathlib.Core.Path.{_≡_};
 ghost use Prim.Native.Nat.{_<_, _≤_};
-ghost use lib.ListN.{length};
 ghost use Rattle.clock_rules.specs.Clock.{runFrom};
 ghost use Rattle.clock_rules.specs.Trace.{tickText};
 ghost use Rattle.clock_marks.specs.Marks.{boardOf, runIn, doneIn};
 ghost use Rattle.clock_lines.specs.Told.{RoomAt};
 ghost use Rattle.clock_nexts.specs.Nexts.{Nexts};
 ghost use Rattle.clock_going.specs.Going.{timingBy, Going};
-ghost use Rattle.clock_strides.specs.Strides.{plainLength, Counted};
-ghost use Rattle.clock_ticks.specs.Ticks.{Ticking, Fresh, Stepping};
+ghost use Rattle.clock_strides.specs.Strides.{Counted};
+ghost use Rattle.clock_ticks.specs.Ticks.{Ticking, Coming, Stepping};
 
 // What a tick leaves: where its text ends, and the task whose job is missed, 0 and 0 for none.
 pub struct Ticked {
@@ -84,80 +83,16 @@ pub fn tick(
     Ticked { at: e, v: 0, n: 0 }
 }
 
-// The task whose job is missed, 0 and 0 for none.
-struct Late {
-    v: u64,
-    n: u64,
-}
-
-// Tick t with its tops and releases, told nowhere. Nothing is known of the cores' turns before it.
-fn open_tick(
-    policy: Policy,
-    choice: OverrunChoice,
-    view: &[u64],
-    times: &[u64],
-    left: &mut [u64],
-    over: &mut [u64],
-    stopped: &mut [bool],
-    holder: &mut [u16],
-    waits: &mut [u8],
-    marks: &mut [u64],
-    nexts: &mut [u64],
-    plain: &mut [u64],
-    t: u64,
-) -> Late
-    requires { ⌜ Going policy choice (now view) (now times) (now left) (now over) (now stopped) (now holder) (now waits) (now marks) × Nexts (now times) (now nexts) t × (t ≤ 1000000) × (length (now plain) ≡ plainLength) ⌝ }
-    ensures { λ r. ⌜ Fresh policy choice (now (view .entry)) (now (times .entry)) t (runIn (now (left .entry)) (now (over .entry)) (now (stopped .entry)) (now (holder .entry)) (now (waits .entry)) (now (marks .entry))) (now (left .exit)) (now (over .exit)) (now (stopped .exit)) (now (holder .exit)) (now (waits .exit)) (now (marks .exit)) (now (nexts .exit)) (now (plain .exit)) (r .v) (r .n) ⌝ }
-{
-    let mut none = [0u8; 1];
-    let o = clock_opens::open(
-        false,
-        policy,
-        choice,
-        view,
-        times,
-        left,
-        over,
-        stopped,
-        holder,
-        waits,
-        marks,
-        nexts,
-        t,
-        &mut none,
-        0,
-    );
-    let v = o.v;
-    let n = o.n;
-    if n != 0 {
-        return Late { v, n };
-    }
-    clock_strides::forget(plain);
-    clock_strides::turns_on(
-        policy,
-        choice,
-        view,
-        times,
-        left,
-        over,
-        stopped,
-        holder,
-        waits,
-        marks,
-        plain,
-        t,
-    );
-    Late { v: 0, n: 0 }
-}
-
-// What a step of the run leaves: the tick that it came to, and the task whose job is missed, 0 and 0 for none.
+// What a step of the run leaves: the task whose job is missed, 0 and 0 for none; whether the turns of the cores are still to be made, or, where the tick was opened, looked at; and the tick that it comes to with them.
 struct Stepped {
     v: u64,
     n: u64,
+    turns: bool,
+    look: bool,
     to: u64,
 }
 
-// A tick of the run to h, or as many ticks at once as no core's turn changes.
+// Opens tick t of the run to h where something recurs at it; else spends as many ticks at once as no core's turn changes.
 fn stride(
     policy: Policy,
     choice: OverrunChoice,
@@ -174,12 +109,14 @@ fn stride(
     t: u64,
     h: u64,
 ) -> Stepped
-    requires { ⌜ Going policy choice (now view) (now times) (now left) (now over) (now stopped) (now holder) (now waits) (now marks) × Nexts (now times) (now nexts) t × (t < h) × (h ≤ 1000000) × Counted (timingBy policy choice (now view) (now times)) (boardOf (now left) (now over) (now stopped) (now holder) (now waits)) (doneIn (now marks)) (now plain) ⌝ }
-    ensures { λ r. ⌜ Stepping policy choice (now (view .entry)) (now (times .entry)) h t (runIn (now (left .entry)) (now (over .entry)) (now (stopped .entry)) (now (holder .entry)) (now (waits .entry)) (now (marks .entry))) (now (left .exit)) (now (over .exit)) (now (stopped .exit)) (now (holder .exit)) (now (waits .exit)) (now (marks .exit)) (now (nexts .exit)) (now (plain .exit)) (r .v) (r .n) (r .to) ⌝ }
+    requires { ⌜ Going policy choice (now view) (now times) (now left) (now over) (now stopped) (now holder) (now waits) (now marks) × Coming (now times) (now nexts) t × (t < h) × (h ≤ 1000000) × Counted (timingBy policy choice (now view) (now times)) (boardOf (now left) (now over) (now stopped) (now holder) (now waits)) (doneIn (now marks)) (now plain) ⌝ }
+    ensures { λ r. ⌜ Stepping policy choice (now (view .entry)) (now (times .entry)) h t (runIn (now (left .entry)) (now (over .entry)) (now (stopped .entry)) (now (holder .entry)) (now (waits .entry)) (now (marks .entry))) (now (nexts .entry)) (now (left .exit)) (now (over .exit)) (now (stopped .exit)) (now (holder .exit)) (now (waits .exit)) (now (marks .exit)) (now (nexts .exit)) (now (plain .exit)) (r .v) (r .n) (r .to) (r .turns) (r .look) ⌝ }
 {
     let soon = clock_strides::sooner(board_seats::at(nexts, 160), board_seats::at(nexts, 161));
     if soon <= t {
-        let k = open_tick(
+        let mut none = [0u8; 1];
+        let o = clock_opens::open(
+            false,
             policy,
             choice,
             view,
@@ -191,41 +128,48 @@ fn stride(
             waits,
             marks,
             nexts,
-            plain,
             t,
+            &mut none,
+            0,
         );
-        let v = k.v;
-        let n = k.n;
-        return Stepped { v, n, to: t + 1 };
-    }
-    let most = clock_strides::sooner(soon, h);
-    let k = clock_strides::least(plain, board_seats::sub(most, t));
-    if 0 < k {
-        clock_strides::spend_all(policy, left, marks, plain, k);
+        let v = o.v;
+        let n = o.n;
+        if n != 0 {
+            return Stepped {
+                v,
+                n,
+                turns: false,
+                look: true,
+                to: t,
+            };
+        }
+        clock_strides::forget(plain);
         return Stepped {
             v: 0,
             n: 0,
-            to: t + k,
+            turns: true,
+            look: true,
+            to: t,
         };
     }
-    clock_strides::turns_on(
-        policy,
-        choice,
-        view,
-        times,
-        left,
-        over,
-        stopped,
-        holder,
-        waits,
-        marks,
-        plain,
-        t,
-    );
+    let most = clock_strides::sooner(soon, h);
+    let k = clock_strides::least(plain, board_seats::sub(most, t));
+    if k == 0 {
+        return Stepped {
+            v: 0,
+            n: 0,
+            turns: true,
+            look: false,
+            to: t + 1,
+        };
+    }
+    clock_strides::spend_all(policy, left, marks, plain, k);
     Stepped {
         v: 0,
         n: 0,
-        to: t + 1,
+        turns: false,
+        look: false,
+        to: t + k,
     }
 }
 
@@ -271,6 +215,25 @@ pub fn run(
         if n != 0 {
             return RunAnswer::Missed { tick: t, v, n };
         }
+        if !s.turns {
+            t = s.to;
+            continue;
+        }
+        clock_strides::turns_on(
+            policy,
+            choice,
+            view,
+            times,
+            left,
+            over,
+            stopped,
+            holder,
+            waits,
+            marks,
+            &mut plain,
+            t,
+            s.look,
+        );
         t = s.to;
     }
     RunAnswer::Ended

@@ -4,13 +4,12 @@ use mathlib.Core.Path.{_≡_}
 use mathlib.Core.Bool.{Bool, true, false}
 use mathlib.Core.List.{List}
 use mathlib.Core.Logic.{_↔_, ⊎-elim}
-use native.Mathlib.Omega.{arith}
 use native.Mathlib.Nat.{eq-or-lt-of-le}
 use borrow.Author.Tests.{eqb-true}
 use Rattle.laws.specs.Range.{OneTo, anyTo}
-use Rattle.laws.specs.BoolLaws.{both-left, both-right, same-or-not}
+use Rattle.laws.specs.BoolLaws.{both-left, both-right}
 use Rattle.laws_picks.specs.Picks.{topOf}
-use Rattle.laws_picks.specs.PickLaws.{Topmost, top-passes, top-found, top-zero}
+use Rattle.laws_picks.specs.PickLaws.{top-passes, top-found, top-zero}
 use Rattle.plan.specs.Limits.{maxV, mostN}
 use Rattle.board_rules.specs.declared.Board.{Board}
 use Rattle.board_rules.specs.declared.Event.{Event}
@@ -31,13 +30,6 @@ pub top-strict : (n : ℕ) (f : ℕ → Bool) (p : ℕ → ℕ) → Untied n f p
 top-strict n f p apart j i e ne =
     let r = top-found n f p j (i .from) (i .to) e in
     ⊎-elim (λ q. absurd (apart j (topOf n f p) i (r .in-range) e (r .is-passed) ne q)) (λ l. l) (eq-or-lt-of-le (r .is-most j (i .from) (i .to) e))
-
--- then whoever is topmost is the pick: the rule for ties is never used
-pub top-only : (n : ℕ) (f : ℕ → Bool) (p : ℕ → ℕ) → Untied n f p → (k : ℕ) → Topmost n f p k → k ≡ topOf n f p
-top-only n f p apart k r =
-    let t = top-found n f p k (r .in-range .from) (r .in-range .to) (r .is-passed) in
-    let m = r .is-most (topOf n f p) (t .in-range .from) (t .in-range .to) (t .is-passed) in
-    ⊎-elim (λ e. e) (λ ne. absurd (let l = top-strict n f p apart k (r .in-range) (r .is-passed) ne in omega arith)) (same-or-not k (topOf n f p))
 
 -- ON THE CLOCK
 

@@ -10,9 +10,10 @@ use Rattle.plan.specs.declared.OverrunChoice.{OverrunChoice}
 use Rattle.board_rules.specs.View.{factsIn}
 use Rattle.clock_rules.specs.Clock.{Run, turn, afterTurn, cores, turns, afterTurns}
 use Rattle.clock_rules.specs.Trace.{linesAt}
-use Rattle.clock_marks.specs.Marks.{runIn}
+use Rattle.clock_marks.specs.Marks.{boardOf, runIn, doneIn}
 use Rattle.clock_lines.specs.Told.{RoomAt}
 use Rattle.clock_going.specs.Going.{timingBy, Going, Made}
+use Rattle.clock_asks.specs.Asked.{KnownPick}
 use Rattle.clock_works.specs.Making.{made-none, made-then, made-length, room-begin, room-then}
 use Rattle.clock_turns.specs.Turned.{Turned}
 
@@ -78,6 +79,11 @@ module _ {p : Policy} {a : OverrunChoice} {t x : List ℕ} {on : Bool} {i : ℕ}
           let T = timingBy p a t x in
           let r′ = runIn ls os ss hs ws k in
           room-begin (factsIn p a t) on i r′ (turn T c r′) (turns T (from (c + 1)) (afterTurn T c r′)) o′ w next-fits
+
+      -- what it requires: nobody is known to be picked
+      pub turn-may : (Going p a t x ls os ss hs ws k × (c ≤ 3))
+          × (RoomAt on (linesAt (factsIn p a t) i (boardOf ls os ss hs ws) (turn (timingBy p a t x) c (runIn ls os ss hs ws k))) o′ w × KnownPick (timingBy p a t x) c (boardOf ls os ss hs ws) (doneIn k) 0 0)
+      turn-may = ((g .going, omega arith), (turn-room, λ z. absurd (omega arith)))
 
       -- it is made
       pub rest-more : {ls₁ os₁ : List ℕ} {ss₁ : List Bool} {hs₁ ws₁ k₁ o₁ : List ℕ} {w₁ : ℕ} →

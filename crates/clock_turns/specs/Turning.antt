@@ -27,9 +27,10 @@ use Rattle.clock_steps.specs.Asking.{asking}
 use Rattle.clock_steps.specs.AskTurn.{Working, asks-taken}
 use Rattle.clock_steps.specs.WorkTurn.{idle-working}
 use Rattle.clock_lines.specs.Told.{RoomAt}
-use Rattle.clock_going.specs.Going.{timingBy, Going, Made, anyHandsOn}
+use Rattle.clock_steps.specs.Hands.{anyHandsOn}
+use Rattle.clock_going.specs.Going.{timingBy, Going, Made}
 use Rattle.clock_asks.specs.Asked.{Asked}
-use Rattle.clock_asks.specs.Chosen.{next-some, next-none}
+use Rattle.board_rules.specs.BoardLaws.{next-none, next-some}
 use Rattle.clock_works.specs.Making.{made-none, made-then, room-begin, room-then}
 use Rattle.clock_works.specs.Worked.{WorkerOn}
 use Rattle.clock_works.specs.Handing.{asks-no-frees, idle-no-frees, hands-after, none-hands}
@@ -161,6 +162,12 @@ module _ {p : Policy} {a : OverrunChoice} {t x ls os : List ℕ} {ss : List Bool
     pub none-works-hands : v ≡ 0 → false ≡ anyHandsOn (answers (factsIn p a t) (boardOf ls os ss hs ws) (work (timingBy p a t x) (doneIn k) (nextOf v n)))
     none-works-hands z = none-hands (factsIn p a t) (boardOf ls os ss hs ws) _ (ap (work (timingBy p a t x) (doneIn k)) (uses-nobody u z))
 
+    -- what is ensured where nobody works
+    pub none-ends : v ≡ 0 →
+        Did p a t x on i (runIn ls os ss hs ws k) (work (timingBy p a t x) (doneIn k) (nextOf v n)) (workDone (doneIn k) (nextOf v n)) ls os ss hs ws k o at o at
+        × (false ≡ anyHandsOn (answers (factsIn p a t) (boardOf ls os ss hs ws) (work (timingBy p a t x) (doneIn k) (nextOf v n))))
+    none-ends z = (none-works z, none-works-hands z)
+
     module _ (nz : v ≡ 0 → ⊥) where
       -- (v, n) hands on what its work does
       pub one-works-hands : {hands : Bool} → hands ≡ anyHandsOn (answers (factsIn p a t) (boardOf ls os ss hs ws) (work (timingBy p a t x) (doneIn k) (To v n))) →
@@ -179,6 +186,20 @@ module _ {p : Policy} {a : OverrunChoice} {t x ls os : List ℕ} {ss : List Bool
       one-works {ls′} {os′} {ss′} {hs′} {ws′} {k′} {o′} {w} g′ m d =
           subst (λ y. Did p a t x on i (runIn ls os ss hs ws k) (work (timingBy p a t x) (doneIn k) y) (workDone (doneIn k) y) ls′ os′ ss′ hs′ ws′ k′ o at o′ w) (sym (uses-some u nz))
           (record { going = g′; made = m; done = d })
+
+      -- what is ensured where (v, n) works
+      pub one-ends : {ls′ os′ : List ℕ} {ss′ : List Bool} {hs′ ws′ k′ o′ : List ℕ} {w : ℕ} → Going p a t x ls′ os′ ss′ hs′ ws′ k′ →
+          Made (factsIn p a t) on i (runIn ls os ss hs ws k) (runIn ls′ os′ ss′ hs′ ws′ k′) (work (timingBy p a t x) (doneIn k) (To v n)) o at o′ w → doneIn k′ ≡ workDone (doneIn k) (To v n) →
+          {hands : Bool} → hands ≡ anyHandsOn (answers (factsIn p a t) (boardOf ls os ss hs ws) (work (timingBy p a t x) (doneIn k) (To v n))) →
+          Did p a t x on i (runIn ls os ss hs ws k) (work (timingBy p a t x) (doneIn k) (nextOf v n)) (workDone (doneIn k) (nextOf v n)) ls′ os′ ss′ hs′ ws′ k′ o at o′ w
+          × (hands ≡ anyHandsOn (answers (factsIn p a t) (boardOf ls os ss hs ws) (work (timingBy p a t x) (doneIn k) (nextOf v n))))
+      one-ends g′ m d e = (one-works g′ m d, one-works-hands e)
+
+      -- what the work requires
+      pub one-may : RoomAt on (linesAt (factsIn p a t) i (boardOf ls os ss hs ws) (work (timingBy p a t x) (doneIn k) (nextOf v n))) o at →
+          (Going p a t x ls os ss hs ws k × WorkerOn (timingBy p a t x) (boardOf ls os ss hs ws) (doneIn k) v n)
+          × RoomAt on (linesAt (factsIn p a t) i (boardOf ls os ss hs ws) (work (timingBy p a t x) (doneIn k) (To v n))) o at
+      one-may h = ((g, uses-worker u nz), work-room h)
 
   -- core c's turn: there is room for its lines
   module _ (c : ℕ) (h : RoomAt on (linesAt (factsIn p a t) i (boardOf ls os ss hs ws) (turn (timingBy p a t x) c (runIn ls os ss hs ws k))) o at) where
@@ -207,6 +228,11 @@ module _ {p : Policy} {a : OverrunChoice} {t x ls os : List ℕ} {ss : List Bool
           somebody = u₁ .somebody;
         }
 
+        -- what the work requires
+        pub may-work : (Going p a t x ls₂ os₂ ss₂ hs₁ ws₁ k₂ × Uses (timingBy p a t x) (boardOf ls₂ os₂ ss₂ hs₁ ws₁) (doneIn k₂) v n)
+            × RoomAt on (linesAt (factsIn p a t) i (boardOf ls₂ os₂ ss₂ hs₁ ws₁) (work (timingBy p a t x) (doneIn k₂) (nextOf v n))) o₂ w₂
+        may-work = ((u₂ .going, who-uses), uses-room)
+
         -- whether a mutex is handed on is what the work says
         pub turn-handed : {hands : Bool} → hands ≡ anyHandsOn (answers (factsIn p a t) (boardOf ls₂ os₂ ss₂ hs₁ ws₁) (work (timingBy p a t x) (doneIn k₂) (nextOf v n))) →
             hands ≡ anyHandsOn (answers (factsIn p a t) (boardOf ls os ss hs ws) (turn (timingBy p a t x) c (runIn ls os ss hs ws k)))
@@ -226,3 +252,9 @@ module _ {p : Policy} {a : OverrunChoice} {t x ls os : List ℕ} {ss : List Bool
                 after = turn-after T on i c r o at h (u₁ .made) (u₁ .done-same) (u₁ .pick) (u₂ .made) (u₂ .done) (u₃ .made) (u₃ .done);
                 made = turn-made T on i c r o at h (u₁ .made) (u₁ .done-same) (u₁ .pick) (u₂ .made) (u₂ .done) (u₃ .made) (u₃ .done);
               }
+
+          -- what the turn ensures
+          pub turn-ends : {hands : Bool} → hands ≡ anyHandsOn (answers (factsIn p a t) (boardOf ls₂ os₂ ss₂ hs₁ ws₁) (work (timingBy p a t x) (doneIn k₂) (nextOf v n))) →
+              Turned p a t x on i (runIn ls os ss hs ws k) (afterTurn (timingBy p a t x) c (runIn ls os ss hs ws k)) (turn (timingBy p a t x) c (runIn ls os ss hs ws k)) ls₃ os₃ ss₃ hs₃ ws₃ k₃ o at o₃ w₃
+              × (hands ≡ anyHandsOn (answers (factsIn p a t) (boardOf ls os ss hs ws) (turn (timingBy p a t x) c (runIn ls os ss hs ws k))))
+          turn-ends e = (turn-turned, turn-handed e)

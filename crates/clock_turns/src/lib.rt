@@ -12,7 +12,9 @@ ghost use Rattle.clock_rules.specs.Clock as clock;
 ghost use Rattle.clock_rules.specs.Trace.{linesAt};
 ghost use Rattle.clock_marks.specs.Marks.{boardOf, runIn, doneIn};
 ghost use Rattle.clock_lines.specs.Told.{RoomAt};
-ghost use Rattle.clock_going.specs.Going.{timingBy, Going, anyHandsOn};
+ghost use Rattle.clock_steps.specs.Hands.{anyHandsOn};
+ghost use Rattle.clock_going.specs.Going.{timingBy, Going};
+ghost use Rattle.clock_asks.specs.Asked.{KnownPick};
 ghost use Rattle.clock_turns.specs.Turned.{Turned, Did, Uses};
 
 // Policy P holds.
@@ -116,7 +118,7 @@ fn works(
     )
 }
 
-// Core c's turn, with where the text goes on after it and whether a mutex was handed on in it.
+// Core c's turn, with where the text goes on after it and whether a mutex was handed on in it: (hv, hn), where hv is not 0, is known to be picked first.
 pub fn turn(
     on: bool,
     policy: Policy,
@@ -130,12 +132,15 @@ pub fn turn(
     waits: &mut [u8],
     marks: &mut [u64],
     c: u64,
+    hv: u64,
+    hn: u64,
     t: u64,
     out: &mut [u8],
     at: usize,
 ) -> Worked
     requires { ⌜ Going policy choice (now view) (now times) (now left) (now over) (now stopped) (now holder) (now waits) (now marks) × (c ≤ 3) ⌝ }
     requires { ⌜ RoomAt on (linesAt (factsIn policy choice (now view)) t (boardOf (now left) (now over) (now stopped) (now holder) (now waits)) (clock.turn (timingBy policy choice (now view) (now times)) c (runIn (now left) (now over) (now stopped) (now holder) (now waits) (now marks)))) (now out) at ⌝ }
+    requires { ⌜ KnownPick (timingBy policy choice (now view) (now times)) c (boardOf (now left) (now over) (now stopped) (now holder) (now waits)) (doneIn (now marks)) hv hn ⌝ }
     ensures { λ r. ⌜ Turned policy choice (now (view .entry)) (now (times .entry)) on t (runIn (now (left .entry)) (now (over .entry)) (now (stopped .entry)) (now (holder .entry)) (now (waits .entry)) (now (marks .entry))) (clock.afterTurn (timingBy policy choice (now (view .entry)) (now (times .entry))) c (runIn (now (left .entry)) (now (over .entry)) (now (stopped .entry)) (now (holder .entry)) (now (waits .entry)) (now (marks .entry)))) (clock.turn (timingBy policy choice (now (view .entry)) (now (times .entry))) c (runIn (now (left .entry)) (now (over .entry)) (now (stopped .entry)) (now (holder .entry)) (now (waits .entry)) (now (marks .entry)))) (now (left .exit)) (now (over .exit)) (now (stopped .exit)) (now (holder .exit)) (now (waits .exit)) (now (marks .exit)) (now (out .entry)) at (now (out .exit)) (r .at) ⌝ }
     ensures { λ r. ⌜ r .handed ≡ anyHandsOn (answers (factsIn policy choice (now (view .entry))) (boardOf (now (left .entry)) (now (over .entry)) (now (stopped .entry)) (now (holder .entry)) (now (waits .entry))) (clock.turn (timingBy policy choice (now (view .entry)) (now (times .entry))) c (runIn (now (left .entry)) (now (over .entry)) (now (stopped .entry)) (now (holder .entry)) (now (waits .entry)) (now (marks .entry))))) ⌝ }
 {
@@ -152,6 +157,8 @@ pub fn turn(
         waits,
         marks,
         c,
+        hv,
+        hn,
         t,
         out,
         at,
@@ -230,6 +237,8 @@ pub fn turns(
             waits,
             marks,
             c,
+            0,
+            0,
             t,
             out,
             w,

@@ -1,8 +1,9 @@
 -- A finished section is freed: what is written then of the task that held the mutex, and of the next one that has it.
-use Prim.Native.Nat.{ℕ, _+_, _-_}
+use Prim.Native.Nat.{ℕ, _+_, _-_, _≤_}
 use mathlib.Core.Path.{_≡_, refl, ap, sym, subst, subst₂, _∙_}
 use mathlib.Core.List.{List, [], _∷_}
 use mathlib.Core.Bool.{Bool, true, false, _&&_, true≢false}
+use mathlib.Core.Logic.{⊎-elim}
 use native.Mathlib.Omega.{arith}
 use borrow.Author.Tests.{le-leb, eq-eqb, ne-eqb}
 use lib.Dec.{ltb, leb}
@@ -10,7 +11,7 @@ use lib.ListN.{getD}
 use Rattle.laws.specs.Choice.{if_then_else_, when}
 use Rattle.laws.specs.Range.{anyTo}
 use Rattle.laws.specs.RangeLaws.{any-at, any-hit, highest-le}
-use Rattle.laws.specs.BoolLaws.{both, both-left, both-right, is-true}
+use Rattle.laws.specs.BoolLaws.{both, both-left, both-right, is-true, is-false, same-or-not}
 use Rattle.plan.specs.Limits.{maxV, maxM, mostN}
 use Rattle.plan.specs.declared.Policy.{Policy}
 use Rattle.plan.specs.declared.OverrunChoice.{OverrunChoice}
@@ -18,6 +19,7 @@ use Rattle.plan.specs.declared.Fault.{Fault}
 use Rattle.plan.specs.declared.Fault.the-variants.{Clear, Bad}
 use Rattle.board_seats.specs.Seats.{isV, isN, seat, isGlobal, isLocal, holdsIt}
 use Rattle.board_walks.specs.Walks as walks
+use Rattle.board_supply.specs.Supplies.{freeFaultAt}
 use Rattle.board_rules.specs.Facts.{Facts}
 use Rattle.board_rules.specs.View.{factsIn}
 use Rattle.board_rules.specs.declared.Board.{Board}
@@ -27,25 +29,28 @@ use Rattle.board_rules.specs.declared.Next.the-variants.{Nobody, To}
 use Rattle.board_rules.specs.declared.BoardAnswer.{BoardAnswer}
 use Rattle.board_rules.specs.declared.BoardAnswer.the-variants.{Granted, Waits, Freed, Left, Shows, Refused}
 use Rattle.board_rules.specs.declared.Outcome.{Outcome}
-use Rattle.board_rules.specs.Board.{waitOf, holdsGlobal, heldGlobal, heldLocal, freed, freedGlobal, freedLocal, freeFault, answered, step}
+use Rattle.board_rules.specs.Board.{leftOf, isStopped, waitOf, holdsGlobal, heldGlobal, heldLocal, freed, freedGlobal, freedLocal, freeFault, answered, step}
 use Rattle.board_keeps.specs.Fair.{InV, InN}
+use Rattle.board_keeps.specs.Good.{good-sound}
+use Rattle.board_keeps.specs.Keeps.{step-keeps}
 use Rattle.clock_rules.specs.Clock.{isUnfinished, freeOf}
 use Rattle.clock_rules.specs.Trace.{eventLine, linesAt}
 use Rattle.clock_times.specs.Times.{timingIn, lengthsCell}
-use Rattle.clock_marks.specs.Marks.{atHolding, atHeld, atDone, boardOf, runIn, doneIn, doneCell, globalMark, heldBy, spares, Sized, Mirrors}
+use Rattle.clock_sets.specs.Sets.{inSet}
+use Rattle.clock_marks.specs.Marks.{atBudget, atSpare, atHolding, atHeld, atDone, boardOf, runIn, doneIn, doneCell, globalMark, heldBy, Sized, Mirrors}
 use Rattle.clock_marks.specs.Changes.{PutIn, PutReady, PutHeld}
-use Rattle.clock_puts.specs.Puts.{PutSupply}
 use Rattle.clock_puts.specs.SizedLaws.{sized-put-held, sized-put-in, sized-put-ready}
 use Rattle.clock_steps.specs.Accepted.{isRefusal}
 use Rattle.clock_paced.specs.Paced.{Paced}
-use Rattle.clock_mirrors.specs.Tells.{mirrors-tell}
+use Rattle.clock_mirrors.specs.Tells.{mirrors-tell, put-is}
+use Rattle.clock_mirrors.specs.Supplies.{PutSupply, PutSupplyOf, spared-alike}
 use Rattle.clock_mirrors.specs.Writes.{done-kept, tells-holding, tells-ready, tells-held}
 use Rattle.clock_mirrors.specs.Frees.{PutNext, free-mirrors, free-nobody-cells, free-to-cells, next-held, waiter-unfinished, next-waited}
 use Rattle.clock_steps.specs.Running.{Running}
 use Rattle.clock_lines.specs.Told.{toldAt, toldTo, RoomAt}
 use Rattle.clock_going.specs.Going.{timingBy, Going, Made}
-use Rattle.clock_works.specs.Making.{made-none, made-one, room-one}
-use Rattle.clock_works.specs.Using.{put-supply-of}
+use Rattle.clock_works.specs.Making.{no-fault, made-none, made-one, room-one}
+use Rattle.clock_works.specs.Using.{AfterUse, put-supply-of, use-done}
 use Rattle.clock_works.specs.Holding.{holdsIn, holds-told}
 
 -- WHO IS NEXT, by the answer to a `free`
@@ -95,7 +100,7 @@ abbrev pub Passed : List ℕ → List ℕ → Next → List ℕ → List ℕ →
 Passed t hs Nobody k k′ = k′ ≡ k
 Passed t hs (To w y) k k′ = Handed (heldAt t hs w y) (walks.holdsGlobal t hs w) w y k k′
 
--- of the task (v, n) that held it too: it holds none, whether its VCPU's tasks hold a global mutex, and the supply of its VCPU
+-- of the task (v, n) that held it too: it holds none, whether its VCPU's tasks hold a global mutex, and the supply of its VCPU, which stays while budget is left
 pub record PutFreed (o : OverrunChoice) (t ls os : List ℕ) (ss : List Bool) (hs : List ℕ) (v n : ℕ) (next : Next) (k k′ : List ℕ) : Type 0 where
   pub with-held : List ℕ
   pub with-next : List ℕ
@@ -103,7 +108,7 @@ pub record PutFreed (o : OverrunChoice) (t ls os : List ℕ) (ss : List Bool) (h
   pub held : PutHeld k with-held v n 0
   pub passed : Passed t hs next with-held with-next
   pub holding : PutIn with-next with-holding atHolding v (holdsIn with-next v)
-  pub supply : PutSupply with-holding k′ v (ltb 0 (getD ls (v - 1) 0)) (spares o (getD ss (v - 1) false) (getD os (v - 1) 0))
+  pub supply : AfterUse o ls os ss with-holding k′ v
 
 -- what task (w, y) holds: a global mutex, else what a walk of the local ones finds
 pub held-global : (t hs : List ℕ) (w y : ℕ) {a : Bool} → a ≡ walks.heldGlobal t hs w y → a ≡ true → globalMark ≡ heldAt t hs w y
@@ -159,10 +164,38 @@ passed-cell t hs (To w y) k k′ q h u z a c = handed-cell (q .0) (q .1) h u z a
 pub freed-done : {o : OverrunChoice} {t ls os : List ℕ} {ss : List Bool} {hs : List ℕ} {v n : ℕ} {next : Next} {k k′ : List ℕ} → InV v → InN n → NextIn next →
     PutFreed o t ls os ss hs v n next k k′ → doneIn k′ ≡ doneIn k
 freed-done {t = t} {hs = hs} {next = next} {k = k} {k′ = k′} i j q h =
-    done-kept k k′
+    use-done (h .supply)
+    ∙ done-kept k (h .with-holding)
     (λ u z a c.
-    h .supply .else-same (atDone + seat u z) (λ e. omega arith) (λ e. omega arith) ∙ h .holding .else-same (atDone + seat u z) (λ e. omega arith)
+    h .holding .else-same (atDone + seat u z) (λ e. omega arith)
     ∙ passed-cell t hs next (h .with-held) (h .with-next) q (h .passed) u z a c ∙ h .held .else-same (atDone + seat u z) (λ e. omega arith) (λ e. omega arith))
+
+-- THE SETS OF SUPPLIES stay while the mutex goes on
+handed-sets : {m : ℕ} {global : Bool} {w y : ℕ} {k k′ : List ℕ} → Handed m global w y k k′ → (j : ℕ) → j ≤ atSpare → getD k′ j 0 ≡ getD k j 0
+handed-sets {w = w} {y = y} h j c =
+    h .holding .else-same j (λ e. omega arith) ∙ h .ready .else-same j (λ e. omega arith) (λ e. omega arith) ∙ h .held .else-same j (λ e. omega arith) (λ e. omega arith)
+
+-- whoever is next
+passed-sets : (t hs : List ℕ) (next : Next) (k k′ : List ℕ) → Passed t hs next k k′ → (j : ℕ) → j ≤ atSpare → getD k′ j 0 ≡ getD k j 0
+passed-sets t hs Nobody k k′ h j c = ap (λ l. getD l j 0) h
+passed-sets t hs (To w y) k k′ h j c = handed-sets h j c
+
+-- all of it
+freed-sets : {o : OverrunChoice} {t ls os : List ℕ} {ss : List Bool} {hs : List ℕ} {v n : ℕ} {next : Next} {k k′ : List ℕ} (h : PutFreed o t ls os ss hs v n next k k′) →
+    (j : ℕ) → j ≤ atSpare → getD (h .with-holding) j 0 ≡ getD k j 0
+freed-sets {t = t} {hs = hs} {v = v} {n = n} {next = next} h j c =
+    h .holding .else-same j (λ e. omega arith) ∙ passed-sets t hs next (h .with-held) (h .with-next) (h .passed) j c ∙ h .held .else-same j (λ e. omega arith) (λ e. omega arith)
+
+-- where they say already what is to be said of v they need no writing
+supply-said : {k : List ℕ} {v : ℕ} {has spare : Bool} → Sized k → inSet (getD k atBudget 0) v ≡ has → inSet (getD k atSpare 0) v ≡ spare → PutSupply k k v has spare
+supply-said {k} {v} {has} {spare} z e f = record {
+  length-same = refl;
+  else-same = λ j a c. refl;
+  budgets-set = z .sets atBudget (omega arith);
+  budgets = λ w i. sym (put-is (inSet (getD k atBudget 0)) (inSet (getD k atBudget 0)) v has (sym e) (λ u a ne. refl) w i);
+  spares-set = z .sets atSpare (omega arith);
+  spared = λ w i. sym (put-is (inSet (getD k atSpare 0)) (inSet (getD k atSpare 0)) v spare (sym f) (λ u a ne. refl) w i);
+}
 
 -- THE LENGTHS of a task, by the times
 pub lengths-in : (p : Policy) (o : OverrunChoice) (t x : List ℕ) (w y : ℕ) → InV w → InN y → timingBy p o t x .lengths w y ≡ lengthsCell x w y
@@ -256,21 +289,54 @@ module _ (p : Policy) (o : OverrunChoice) (t x : List ℕ) (pace : Paced (timing
               (λ z e. u .holding .else-same (atHeld + seat v z) (λ s. omega arith) ∙ u .ready .else-same (atHeld + seat v z) (λ s. omega arith) (λ s. omega arith)
               ∙ free-to-cells m (pace .fair) (r .shaped) (r .is-good) v n l w y a h (u .held) v z i e)
 
-      -- so it is mirrored
-      freed-mirrors : {k′ : List ℕ} → (let b′ = step (factsIn p o t) b (Free v n l) .board in PutFreed o t (b′ .left) (b′ .over) (b′ .stopped) (b′ .holder) v n next k k′) →
-          Mirrors (timingBy p o t x) x (step (factsIn p o t) b (Free v n l) .board) k′
-      unfolding timingIn factsIn
-      freed-mirrors h =
-          let q = next-put (doneIn k) (h .with-held) (h .with-next) (step (factsIn p o t) b (Free v n l) .board) next next-waiter (h .passed) in
-          free-mirrors m (pace .fair) (r .shaped) (r .is-good) v n l next a (h .held) q
-          (subst (PutIn (h .with-next) (h .with-holding) atHolding v) (next-holds (h .with-held) (h .with-next) (h .held) q) (h .holding)) (put-supply-of (h .supply))
+      -- the supply of v is as it was while budget is left, for no mark stands then
+      module _ (el : step (factsIn p o t) b (Free v n l) .board .left ≡ b .left) (eo : step (factsIn p o t) b (Free v n l) .board .over ≡ b .over) where
+        mark-same : (leftOf (step (factsIn p o t) b (Free v n l) .board) v ≡ 0 → ⊥) → isStopped (step (factsIn p o t) b (Free v n l) .board) v ≡ isStopped b v
+        unfolding timingIn
+        mark-same nz =
+            let F = factsIn p o t in
+            let b′ = step F b (Free v n l) .board in
+            is-false (isStopped b′ v) (λ s. nz (good-sound F b′ (step-keeps (pace .fair) (r .shaped) (r .is-good) (Free v n l)) .budgets v i .mark-left s))
+            ∙ sym (is-false (isStopped b v) (λ s. nz (ap (λ (y : List ℕ). getD y (v - 1) 0) el ∙ good-sound F b (r .is-good) .budgets v i .mark-left s)))
 
-      -- and b′, which is that board
-      pub freed-kept : (b′ : Board) → b′ ≡ step (factsIn p o t) b (Free v n l) .board → {k′ : List ℕ} → PutFreed o t (b′ .left) (b′ .over) (b′ .stopped) (b′ .holder) v n next k k′ →
-          Mirrors (timingBy p o t x) x b′ k′
-      freed-kept b′ e {k′} h =
+        -- what is kept of it is right then
+        supply-kept : {k′ : List ℕ} (h : let b′ = step (factsIn p o t) b (Free v n l) .board in PutFreed o t (b′ .left) (b′ .over) (b′ .stopped) (b′ .holder) v n next k k′) →
+            (leftOf (step (factsIn p o t) b (Free v n l) .board) v ≡ 0 → ⊥) → PutSupplyOf (timingBy p o t x) (step (factsIn p o t) b (Free v n l) .board) v (h .with-holding) (h .with-holding)
+        unfolding timingIn
+        supply-kept h nz =
+            let b′ = step (factsIn p o t) b (Free v n l) .board in
+            let z = sized-put-in (passed-sized t (b′ .holder) next (h .with-next) (sized-put-held (m .sized) i j (h .held)) next-named (h .passed)) (omega arith) (h .holding) in
+            supply-said z
+            (ap (λ y. inSet y v) (freed-sets h atBudget (omega arith)) ∙ m .budget v i ∙ ap (λ (y : List ℕ). ltb 0 (getD y (v - 1) 0)) (sym el))
+            (ap (λ y. inSet y v) (freed-sets h atSpare (omega arith)) ∙ m .spare v i ∙ spared-alike (timingBy p o t x) b b′ v (mark-same nz) (ap (λ (y : List ℕ). getD y (v - 1) 0) eo))
+
+        -- and either way
+        supply-is : {k′ : List ℕ} (h : let b′ = step (factsIn p o t) b (Free v n l) .board in PutFreed o t (b′ .left) (b′ .over) (b′ .stopped) (b′ .holder) v n next k k′) →
+            PutSupplyOf (timingBy p o t x) (step (factsIn p o t) b (Free v n l) .board) v (h .with-holding) k′
+        unfolding timingIn factsIn
+        supply-is h =
+            let b′ = step (factsIn p o t) b (Free v n l) .board in
+            ⊎-elim
+            (λ z. put-supply-of (h .supply .put z))
+            (λ nz. subst (PutSupplyOf (timingBy p o t x) b′ v (h .with-holding)) (sym (h .supply .kept nz)) (supply-kept h nz))
+            (same-or-not (leftOf b′ v) 0)
+
+        -- so it is mirrored
+        freed-mirrors : {k′ : List ℕ} → (let b′ = step (factsIn p o t) b (Free v n l) .board in PutFreed o t (b′ .left) (b′ .over) (b′ .stopped) (b′ .holder) v n next k k′) →
+            Mirrors (timingBy p o t x) x (step (factsIn p o t) b (Free v n l) .board) k′
+        unfolding timingIn factsIn
+        freed-mirrors h =
+            let q = next-put (doneIn k) (h .with-held) (h .with-next) (step (factsIn p o t) b (Free v n l) .board) next next-waiter (h .passed) in
+            free-mirrors m (pace .fair) (r .shaped) (r .is-good) v n l next a (h .held) q
+            (subst (PutIn (h .with-next) (h .with-holding) atHolding v) (next-holds (h .with-held) (h .with-next) (h .held) q) (h .holding)) (supply-is h)
+
+      -- and b′, which is that board, with the budgets and overruns of b
+      pub freed-kept : (b′ : Board) → b′ ≡ step (factsIn p o t) b (Free v n l) .board → b′ .left ≡ b .left → b′ .over ≡ b .over → {k′ : List ℕ} →
+          PutFreed o t (b′ .left) (b′ .over) (b′ .stopped) (b′ .holder) v n next k k′ → Mirrors (timingBy p o t x) x b′ k′
+      freed-kept b′ e el eo {k′} h =
           subst (λ c. Mirrors (timingBy p o t x) x c k′) (sym e)
-          (freed-mirrors (subst (λ c. PutFreed o t (c .left) (c .over) (c .stopped) (c .holder) v n next k k′) e h))
+          (freed-mirrors (ap (λ (c : Board). c .left) (sym e) ∙ el) (ap (λ (c : Board). c .over) (sym e) ∙ eo)
+          (subst (λ c. PutFreed o t (c .left) (c .over) (c .stopped) (c .holder) v n next k k′) e h))
 
     -- where l is global the next one holds a global mutex
     pub next-global : GotGlobal t (step (factsIn p o t) b (Free v n l) .board .holder) (isGlobal t l) next
@@ -300,6 +366,11 @@ module _ {p : Policy} {o : OverrunChoice} {t x ls os : List ℕ} {ss : List Bool
   -- one where there is
   one-free : (m ≡ 0 → ⊥) → freeOf v n m ≡ Free v n m ∷ []
   one-free nz = ap (λ (y : Bool). if y then [] else Free v n m ∷ []) (ne-eqb m 0 nz)
+
+  -- it has no fault
+  pub free-clear : (m ≡ 0 → ⊥) → freeFaultAt t hs v n m ≡ Clear
+  unfolding step freeFault factsIn
+  free-clear nz = let b = boardOf ls os ss hs ws in no-fault b (freed (factsIn p o t) b v m) (freeFault (factsIn p o t) b v n m) (f nz)
 
   -- nothing is freed
   pub free-none : m ≡ 0 → Mirrors (timingBy p o t x) x (boardOf ls os ss hs ws) k
@@ -344,7 +415,7 @@ module _ {p : Policy} {o : OverrunChoice} {t x ls os : List ℕ} {ss : List Bool
     unfolding timingIn
     free-one {next} {k′} d h′ {c} {w} r z =
         let h = subst (λ u. PutFreed o t ls os ss′ hs′ v n u k k′) d h′ in (
-          freed-kept p o t x (g .paced) (g .mirrors) (g .running) v n m (nextIn y) answer-is i j (boardOf ls os ss′ hs′ ws′) (ap (λ (s : Outcome). s .board) q) h,
+          freed-kept p o t x (g .paced) (g .mirrors) (g .running) v n m (nextIn y) answer-is i j (boardOf ls os ss′ hs′ ws′) (ap (λ (s : Outcome). s .board) q) refl refl h,
           (
             subst (λ es. Made (factsIn p o t) on e (runIn ls os ss hs ws k) (runIn ls os ss′ hs′ ws′ k′) es a at c w) (sym (one-free nz))
                 (made-one (factsIn p o t) on e (runIn ls os ss hs ws k) (runIn ls os ss′ hs′ ws′ k′) (Free v n m) q refl z r),

@@ -6,7 +6,7 @@ use mathlib.Core.Bool.{Bool, true, false, _&&_, _||_, or-false, false≢true}
 use borrow.Author.Tests.{eq-eqb, ne-eqb}
 use Rattle.laws.specs.Choice.{if_then_else_}
 use Rattle.laws.specs.Range.{flatTo}
-use Rattle.laws.specs.BoolLaws.{both, both-left, both-right, neither}
+use Rattle.laws.specs.BoolLaws.{both, both-left, both-right}
 use Rattle.plan.specs.Limits.{maxV}
 use Rattle.plan.specs.declared.Fault.{Fault}
 use Rattle.plan.specs.declared.Fault.the-variants.{Clear, Bad}
@@ -23,7 +23,7 @@ use Rattle.board_rules.specs.Board.{seat, withHolder, withWait, mayHave, asked,
 use Rattle.board_rules.specs.Events.{answersBy, answers, boardBy, boardAfter}
 use Rattle.clock_rules.specs.Clock.{Timing, Asks, idles, idleUses, freeOf}
 use Rattle.clock_steps.specs.Asking.{Asking, spent, none-picked, none-due, has-asked, has-waited}
-use Rattle.clock_going.specs.Going.{handsOn, anyHandsOn}
+use Rattle.clock_steps.specs.Hands.{handsOn, anyHandsOn}
 use Rattle.clock_works.specs.Freed.{nextIn}
 
 -- BY WHO IS NEXT

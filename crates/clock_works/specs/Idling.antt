@@ -30,9 +30,12 @@ use Rattle.clock_rules.specs.Trace.{linesAt}
 use Rattle.clock_times.specs.Times.{timingIn}
 use Rattle.clock_marks.specs.Marks.{boardOf, runIn, doneIn}
 use Rattle.clock_picks.specs.Picking.{Idlers}
+use Rattle.clock_steps.specs.Accepted.{Accepted}
+use Rattle.clock_steps.specs.IdleTurn.{idle-accepted}
 use Rattle.clock_lines.specs.Told.{RoomAt}
 use Rattle.clock_going.specs.Going.{timingBy, Going, Made}
-use Rattle.clock_works.specs.Making.{made-none, made-then, made-length, room-begin, room-then}
+use Rattle.clock_works.specs.Making.{accepted-rest, made-none, made-then, made-length, room-begin, room-then}
+use Rattle.clock_works.specs.Using.{Uses}
 
 -- WHAT EACH k GIVES, one after the other
 
@@ -167,6 +170,16 @@ module _ {F : Facts} {T : Timing} {on : Bool} {i c : ℕ} {r r′ : Run} {s : �
         flat-next f (g .upTo) v is-next (λ j l m. idle-none T c (r .board) (r .done) j (between j l m))
         ∙ ap (λ x. flatTo (g .upTo) f ++ x) (idle-some T c (r .board) (r .done) v next-idles)
 
+    -- its use is not refused, where none is
+    pub next-taken : Accepted F (r .board) (idleUses T c (r .board) (r .done)) → Uses F (r′ .board) v
+    unfolding idleUses
+    next-taken h =
+        let f = idleOf T c (r .board) (r .done) in
+        let q = flat-front f maxV v (next-in .to) in
+        let xs = flatTo (g .upTo) f in
+        let y = accepted-rest F (r .board) xs (Use v 1 ∷ q .more) (subst (Accepted F (r .board)) (q .is ∙ ap (λ x. x ++ q .more) next-uses ∙ append-assoc xs (Use v 1 ∷ []) (q .more)) h) in
+        subst (λ b. Uses F b v) (sym (g .made .board)) (y .0)
+
     -- there is room for those up to it
     module _ (h : RoomAt on (linesAt F i (r .board) (idleUses T c (r .board) (r .done))) a at) where
       -- for their lines
@@ -224,3 +237,9 @@ idling-first {p} {o} {t} {x} {ls} {os} {ss} {hs} {ws} {k} g e on i c s a at l h 
     let b = boardOf ls os ss hs ws in
     idling-none (factsIn p o t) T on i c (runIn ls os ss hs ws k) s a at l
     (λ v j. h T x b (g .mirrors) v j ∙ ap (λ y. y && (isOn T c v && (ltb 0 (leftOf b v) && not (hasReady T b (doneIn k) v)))) (sym e))
+
+-- and none of their uses is refused
+pub idling-taken : {p : Policy} {o : OverrunChoice} {t x ls os : List ℕ} {ss : List Bool} {hs ws k : List ℕ} → Going p o t x ls os ss hs ws k → (c : ℕ) →
+    Accepted (factsIn p o t) (boardOf ls os ss hs ws) (idleUses (timingBy p o t x) c (boardOf ls os ss hs ws) (doneIn k))
+unfolding timingIn
+idling-taken g c = idle-accepted (g .paced) c (g .running)

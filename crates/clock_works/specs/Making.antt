@@ -1,22 +1,35 @@
 -- Events made one after the other, and told one behind the other.
 use Prim.Native.Nat.{ℕ, _+_}
-use mathlib.Core.Path.{_≡_, ap, sym, subst, subst₂, _∙_}
+use mathlib.Core.Path.{_≡_, refl, ap, sym, subst, subst₂, _∙_}
 use mathlib.Core.List.{List, [], _∷_, _++_, append-nil}
-use mathlib.Core.Bool.{Bool}
+use mathlib.Core.Bool.{Bool, false, true≢false}
 use lib.ListN.{length}
+use Rattle.plan.specs.declared.Fault.{Fault}
+use Rattle.plan.specs.declared.Fault.the-variants.{Clear, Bad}
 use Rattle.board_rules.specs.Facts.{Facts}
 use Rattle.board_rules.specs.declared.Board.{Board}
 use Rattle.board_rules.specs.declared.Event.{Event}
 use Rattle.board_rules.specs.declared.Outcome.{Outcome}
 use Rattle.board_rules.specs.declared.BoardAnswer.{BoardAnswer}
-use Rattle.board_rules.specs.Board.{step}
+use Rattle.board_rules.specs.Board.{answered, step}
 use Rattle.board_rules.specs.Events.{boardBy, boardAfter}
 use Rattle.clock_rules.specs.Clock.{Run}
 use Rattle.clock_rules.specs.Trace.{eventLine, linesAt}
-use Rattle.clock_steps.specs.Accepted.{board-append}
+use Rattle.clock_steps.specs.Accepted.{isRefusal, Accepted, board-append}
 use Rattle.clock_lines.specs.Told.{toldAt, toldTo, RoomAt, told-none, told-to-none, told-two, told-to-two, told-length, room-first, room-rest}
 use Rattle.clock_going.specs.Going.{Made}
 use Rattle.clock_going.specs.Lines.{lines-append}
+
+-- an event that is not refused has no fault
+pub no-fault : (b : Board) (o : Outcome) (x : Fault) → isRefusal (answered b x o .answer) ≡ false → x ≡ Clear
+no-fault b o Clear h = refl
+no-fault b o (Bad r) h = absurd (true≢false h)
+
+-- where none of two lists of events is refused, none of the second is
+pub accepted-rest : (F : Facts) (b : Board) (xs ys : List Event) → Accepted F b (xs ++ ys) → Accepted F (boardAfter F b xs) ys
+unfolding boardBy
+accepted-rest F b [] ys h = h
+accepted-rest F b (e ∷ xs) ys h = accepted-rest F (step F b e .board) xs ys (h .1)
 
 -- the lines of one event
 pub lines-one : (F : Facts) (i : ℕ) (b : Board) (e : Event) → linesAt F i b (e ∷ []) ≡ eventLine i e (step F b e .answer)

@@ -15,11 +15,14 @@ use Rattle.plan.specs.declared.Refusal.{Refusal}
 use Rattle.plan.specs.declared.Fault.{Fault}
 use Rattle.plan.specs.declared.Fault.the-variants.{Clear, Bad}
 use Rattle.board_seats.specs.Seats.{hasVcpu}
+use Rattle.board_walks.specs.Walks as walks
+use Rattle.board_supply.specs.Supplies.{useFaultAt}
+use Rattle.board_rules.specs.Facts.{Facts}
 use Rattle.board_rules.specs.View.{factsIn}
 use Rattle.board_rules.specs.declared.Board.{Board}
 use Rattle.board_rules.specs.declared.Event.the-variants.{Use}
 use Rattle.board_rules.specs.declared.Outcome.{Outcome}
-use Rattle.board_rules.specs.Board.{leftOf, overOf, settled, used, answered, useFault, step, good, mustStop, holdsGlobal}
+use Rattle.board_rules.specs.Board.{leftOf, overOf, supply, settled, used, answered, useFault, step, good, mustStop, holdsGlobal}
 use Rattle.board_rules.specs.Events.{boardBy}
 use Rattle.board_rules.specs.Settle.{Marked}
 use Rattle.board_keeps.specs.Fair.{Fair, InV}
@@ -32,15 +35,21 @@ use Rattle.clock_rules.specs.Clock.{Timing}
 use Rattle.clock_rules.specs.Trace.{eventLine, linesAt}
 use Rattle.clock_lines.specs.Told.{toldAt, toldTo, RoomAt}
 use Rattle.clock_times.specs.Times.{timingIn}
-use Rattle.clock_marks.specs.Marks.{boardOf, runIn, doneIn, spares, Mirrors}
+use Rattle.clock_sets.specs.Sets.{inSet}
+use Rattle.clock_marks.specs.Marks.{atHolding, boardOf, runIn, doneIn, spares, Mirrors}
 use Rattle.clock_puts.specs.Puts.{PutSupply}
 use Rattle.clock_mirrors.specs.Supplies as mirrors
 use Rattle.clock_mirrors.specs.Supplies.{put-supply-done, use-mirrors, tick-mirrors}
 use Rattle.clock_steps.specs.Quiet.{same-in-step, use-locks}
 use Rattle.clock_steps.specs.Taken.{use-is}
+use Rattle.clock_steps.specs.Accepted.{isRefusal}
 use Rattle.clock_steps.specs.Running.{Running, still-running}
 use Rattle.clock_going.specs.Going.{timingBy, Going, Made}
-use Rattle.clock_works.specs.Making.{room-one, made-one}
+use Rattle.clock_works.specs.Making.{no-fault, room-one, made-one}
+
+-- A TICK OF v is not refused
+abbrev pub Uses : Facts → Board → ℕ → Type 0
+Uses F b v = isRefusal (step F b (Use v 1) .answer) ≡ false
 
 -- the sets of supplies are written anew where v has no budget left: ls, os, ss are the budgets, the overruns and the marks
 pub record AfterUse (o : OverrunChoice) (ls os : List ℕ) (ss : List Bool) (k k′ : List ℕ) (v : ℕ) : Type 0 where
@@ -130,6 +139,16 @@ module _ {p : Policy} {o : OverrunChoice} {t x ls os : List ℕ} {ss : List Bool
       none e =
           let q = good-sound (factsIn p o t) (boardOf ls os ss hs ws) (g .running .is-good) .budgets v i .left-le in
           let z = g .paced .fair .no-budget v e in omega arith
+
+  -- a tick that is not refused has no fault
+  pub going-uses : (v : ℕ) → Uses (factsIn p o t) (boardOf ls os ss hs ws) v → useFaultAt o t ls os ss hs v 1 ≡ Clear
+  unfolding step useFault factsIn supply holdsGlobal
+  going-uses v h = let b = boardOf ls os ss hs ws in no-fault b (used (factsIn p o t) b v 1) (useFault (factsIn p o t) b v 1) h
+
+  -- whether the tasks of v hold a global mutex
+  pub going-holds : (v : ℕ) → InV v → inSet (getD k atHolding 0) v ≡ walks.holdsGlobal t hs v
+  unfolding timingIn factsIn holdsGlobal
+  going-holds v i = g .mirrors .holding v i
 
   -- holds after a tick of v
   pub use-going : (v : ℕ) {ls′ os′ : List ℕ} {ss′ : List Bool} {k′ : List ℕ} →

@@ -39,8 +39,10 @@ use Rattle.clock_steps.specs.AskTurn.{Worker}
 use Rattle.clock_steps.specs.Running.{Running}
 use Rattle.clock_steps.specs.WorkTurn.{work-accepted, work-running}
 use Rattle.clock_lines.specs.Told.{RoomAt}
-use Rattle.clock_going.specs.Going.{timingBy, Going, Made, anyHandsOn}
+use Rattle.clock_steps.specs.Hands.{anyHandsOn}
+use Rattle.clock_going.specs.Going.{timingBy, Going, Made}
 use Rattle.clock_works.specs.Making.{made-then, room-begin, room-then}
+use Rattle.clock_works.specs.Using.{Uses}
 use Rattle.clock_works.specs.Freed.{Frees, nextIn, freed-answer, lengths-in}
 use Rattle.clock_works.specs.Handing.{hands-after}
 
@@ -140,6 +142,11 @@ module _ {p : Policy} {o : OverrunChoice} {t x ls os : List ℕ} {ss : List Bool
   -- its task too
   pub work-n : InN n
   work-n = c .worker .chosen .n-in
+
+  -- its use is not refused
+  pub work-uses : Uses (factsIn p o t) (boardOf ls os ss hs ws) v
+  unfolding timingIn
+  work-uses = work-accepted (g .paced) (c .core) (g .running) (To v n) (c .worker) .0
 
   -- there is room for the use
   pub use-fits : RoomAt on (linesAt (factsIn p o t) i (boardOf ls os ss hs ws) (Use v 1 ∷ [])) a at

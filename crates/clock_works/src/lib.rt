@@ -17,8 +17,9 @@ ghost use Rattle.clock_rules.specs.Trace.{linesAt};
 ghost use Rattle.clock_lines.specs.Told.{RoomAt};
 ghost use Rattle.clock_marks.specs.Marks.{Sized, Mirrors, boardOf, runIn, doneIn, doneCell, placeCell};
 ghost use Rattle.clock_mirrors.specs.Writes.{PutJob};
-ghost use Rattle.clock_going.specs.Going.{timingBy, Going, Made, anyHandsOn};
-ghost use Rattle.clock_works.specs.Using.{AfterUse};
+ghost use Rattle.clock_steps.specs.Hands.{anyHandsOn};
+ghost use Rattle.clock_going.specs.Going.{timingBy, Going, Made};
+ghost use Rattle.clock_works.specs.Using.{Uses, AfterUse};
 ghost use Rattle.clock_works.specs.Holding.{holdsIn};
 ghost use Rattle.clock_works.specs.Freed.{nextIn, NextIn, heldAt, Handed, Passed, GotGlobal, PutFreed, Frees};
 ghost use Rattle.clock_works.specs.Handing.{goesOn};
@@ -30,7 +31,7 @@ pub struct Worked {
     pub handed: bool,
 }
 
-// What is kept of the supply of v after a tick of it is used: nothing changes while budget is left.
+// What is kept of the supply of v after a tick of it is used, or a mutex of it freed: nothing changes while budget is left.
 fn after_use(
     choice: OverrunChoice,
     left: &[u64],
@@ -47,7 +48,7 @@ fn after_use(
     }
 }
 
-// One tick of v is used.
+// One tick of v is used, which is not refused: no mutex is walked over.
 fn use_one(
     on: bool,
     policy: Policy,
@@ -65,13 +66,14 @@ fn use_one(
     out: &mut [u8],
     at: usize,
 ) -> usize
-    requires { ⌜ (0 < v) × (v ≤ 16) × Going policy choice (now view) (now times) (now left) (now over) (now stopped) (now holder) (now waits) (now marks) ⌝ }
+    requires { ⌜ (0 < v) × (v ≤ 16) × Going policy choice (now view) (now times) (now left) (now over) (now stopped) (now holder) (now waits) (now marks) × Uses (factsIn policy choice (now view)) (boardOf (now left) (now over) (now stopped) (now holder) (now waits)) v ⌝ }
     requires { ⌜ RoomAt on (linesAt (factsIn policy choice (now view)) t (boardOf (now left) (now over) (now stopped) (now holder) (now waits)) (Event.Use v 1 ∷ [])) (now out) at ⌝ }
     ensures { λ r. ⌜ Going policy choice (now (view .entry)) (now (times .entry)) (now (left .exit)) (now (over .exit)) (now (stopped .exit)) (now (holder .entry)) (now (waits .entry)) (now (marks .exit)) ⌝ }
     ensures { λ r. ⌜ Made (factsIn policy choice (now (view .entry))) on t (runIn (now (left .entry)) (now (over .entry)) (now (stopped .entry)) (now (holder .entry)) (now (waits .entry)) (now (marks .entry))) (runIn (now (left .exit)) (now (over .exit)) (now (stopped .exit)) (now (holder .entry)) (now (waits .entry)) (now (marks .exit))) (Event.Use v 1 ∷ []) (now (out .entry)) at (now (out .exit)) r ⌝ }
     ensures { λ r. ⌜ doneIn (now (marks .exit)) ≡ doneIn (now (marks .entry)) ⌝ }
 {
-    let a = Board::use_in(policy, choice, view, left, over, stopped, holder, v, 1);
+    let holds = clock_sets::has(board_seats::at(marks, 3), v);
+    let a = Board::use_sure(policy, choice, view, left, over, stopped, holder, v, holds);
     after_use(choice, left, over, stopped, marks, v);
     clock_lines::tell(on, out, at, t, Event::Use { v, t: 1 }, a)
 }
@@ -232,7 +234,7 @@ fn after_free(
     passed(view, holder, marks, global, next);
     let held = holds_in(marks, v);
     clock_puts::put_in(marks, clock_puts::HOLDING, v, held);
-    clock_puts::put_supply(choice, left, over, stopped, marks, v);
+    after_use(choice, left, over, stopped, marks, v);
 }
 
 // Task (v, n) frees m, where a section is finished.
@@ -265,7 +267,7 @@ fn freeing(
     if m == 0 {
         return Worked { at, handed: false };
     }
-    let a = Board::free_in(policy, choice, view, left, stopped, holder, waits, v, n, m);
+    let a = Board::free_sure(policy, choice, view, left, stopped, holder, waits, v, n, m);
     let global = board_seats::is_global(view, m);
     let next = next_in(a);
     let handed = goes_on(next);

@@ -8,7 +8,6 @@ use lib.ListN.{length}
 use Rattle.plan.specs.Limits.{maxInput}
 use Rattle.plan.specs.declared.Refusal.{Refusal}
 use Rattle.plan.specs.declared.Refusal.the-variants.{Room}
-use Rattle.plan.specs.Plan.{Plan}
 use Rattle.plan.specs.Reading.{Reading, reading}
 use Rattle.plan_tables.specs.declared.PlanRecord.{PlanRecord}
 use Rattle.plan_tables.specs.Layout.{Tables, lent}
@@ -16,9 +15,9 @@ use Rattle.plan_tables.specs.Given.{planIn, isGiven}
 use Rattle.read_fill.specs.Fill.{vcpuPut, mutexPut, openPut, taskPut}
 use Rattle.read_answer.specs.declared.PlanAnswer.{PlanAnswer}
 use Rattle.read_answer.specs.declared.PlanAnswer.the-variants.{Accepted, Refused}
-use Rattle.read_answer.specs.Into.{planAnswer, tablesAfter}
+use Rattle.read_answer.specs.Into.{planAnswer}
 use Rattle.read_answer.specs.Judged.{isAccepted, linesLeft}
-use Rattle.read_answer.specs.Ample.{Ample, accepted-left}
+use Rattle.read_answer.specs.Ample.{Ample}
 use Rattle.figures.specs.System.{system}
 use Rattle.figures.specs.Tabled.{systemIn}
 use Rattle.listing.specs.Listing.{listing, refusedLine, readText, verdictText}
@@ -26,7 +25,8 @@ use Rattle.board_rules.specs.Facts.{factsOf}
 use Rattle.board_rules.specs.Events.{eventsText, boardText}
 use Rattle.listing_lines.specs.declared.TextAnswer.{TextAnswer}
 use Rattle.listing_lines.specs.Into.{textAnswer, textAfter}
-use Rattle.desk.specs.Read.{recordIn, refusalIn, lineIn, accepted-is, refused-is, Lies, accepted-lies, refused-reads}
+use Rattle.records_read.specs.Lies.{Sure, refused-reads, left-lies}
+use Rattle.desk.specs.Read.{recordIn, refusalIn, lineIn, accepted-is, refused-is}
 use Rattle.desk_rooms.specs.Boarded.{answersFor}
 
 -- of a plan in tables, the answers to events where `on`, else its listing
@@ -59,10 +59,6 @@ module _ {on : Bool} (r : PlanRecord) (t : Tables) (es o : List ℕ) {b : TextAn
   pub listing-told : on ≡ false → Printed (listing (systemIn r (t .vcpus) (t .mutexes) (t .tasks))) o b p → Printed (toldIn on r t es) o b p
   listing-told h w = rw h w
 
--- the tables of an accepted plan pass the test for 9
-pub record Sure (a : PlanAnswer) (t : Tables) : Type 0 where
-  pub given : (r : PlanRecord) → a ≡ Accepted r → isGiven r t ≡ true
-
 -- as code finds out
 module _ {a : PlanAnswer} {t : Tables} (s : Sure a t) {x : Bool} (h : x ≡ isAccepted a) where
   module _ (e : x ≡ true) {r : PlanRecord} (k : r ≡ recordIn a) where
@@ -92,25 +88,13 @@ module _ (s : List ℕ) {vt mt ot ts : List ℕ} (l : Ample (lent vt mt ot ts)) 
   abbrev left : Tables
   left = lent vu mu ou tu
 
-  left-is : (r : PlanRecord) → a ≡ Accepted r → left ≡ tablesAfter s into
-  left-is r e =
-      let w : left ≡ lent (linesLeft vcpuPut s vt) (linesLeft mutexPut s mt) (linesLeft openPut s ot) (linesLeft taskPut s ts) =
-      λ i. lent (v i) (m i) (o i) (k i) in
-      w ∙ accepted-left s into r (sym h ∙ e)
-
-  pub left-lies : (r : PlanRecord) → a ≡ Accepted r → (p : Plan) × Lies s r left p
-  left-lies r e = rw (left-is r e) (accepted-lies s into l r (sym h ∙ e))
-
-  pub left-sure : Sure a left
-  left-sure = record { given = λ r e. left-lies r e .1 .given }
-
   accepted-told : (on : Bool) (es : List ℕ) (r : PlanRecord) → a ≡ Accepted r → toldIn on r left es ≡ textFor on (reading s) es
   unfolding answersFor
   accepted-told true es r e =
-      let w = left-lies r e in
+      let w = left-lies s l h v m o k r e in
       ap (λ p. answersFor (factsOf (system p)) es) (w .1 .is) ∙ ap (λ x. eventsText x es) (sym (w .1 .reads))
   accepted-told false es r e =
-      let w = left-lies r e in
+      let w = left-lies s l h v m o k r e in
       ap listing (w .1 .holds) ∙ ap readText (sym (w .1 .reads))
 
   refused-told : (on : Bool) (es : List ℕ) (x : Refusal) (n : ℕ) → a ≡ Refused x n → refusedLine x n ≡ textFor on (reading s) es

@@ -1,5 +1,4 @@
-// The faces that strangers call: from any bytes to the bytes that a program prints, or to how a run ends.
-use clock_rules::RunAnswer;
+// The faces that strangers call: from any bytes to the bytes that a program prints.
 use listing_lines::TextAnswer;
 use plan::Refusal;
 use plan_tables::PlanRecord;
@@ -15,9 +14,9 @@ ghost use Rattle.listing.specs.Listing.{refusedLine, verdictText};
 ghost use Rattle.board_rules.specs.Events.{boardText};
 ghost use Rattle.text_letters.specs.Wrote.{Wrote};
 ghost use Rattle.listing_lines.specs.Into.{textAnswer, textAfter, bytesIn};
+ghost use Rattle.records_read.specs.Lies.{Sure};
 ghost use Rattle.desk.specs.Read.{recordIn, refusalIn, lineIn};
-ghost use Rattle.desk.specs.Told.{Sure, toldIn, toldOr, textFor};
-ghost use Rattle.desk.specs.Ran.{runOr, runBytes};
+ghost use Rattle.desk.specs.Told.{toldIn, toldOr, textFor};
 ghost use Rattle.desk_rooms.specs.Whole.{verdictBytes, boardBytes, Counted};
 
 // The record of an accepted plan; of a refused one a record without rows.
@@ -174,31 +173,4 @@ pub fn verdict_in(src: &[u8], out: &mut [u8]) -> usize
 {
     let a = verdict_text(src, out);
     bytes_in(a)
-}
-
-// The run to horizon h of an accepted plan in tables; for a refused one its number.
-fn run_or(a: PlanAnswer, vt: &[u64], mt: &[u64], ot: &[u64], ts: &[u64], h: u64) -> RunAnswer
-    ensures { λ x. ⌜ x ≡ runOr a (lent (now (vt .entry)) (now (mt .entry)) (now (ot .entry)) (now (ts .entry))) h ⌝ }
-{
-    if read_answer::is_accepted(a) {
-        let r = record_in(a);
-        return clock_tables::run_of(r, vt, mt, ot, ts, h);
-    }
-    let x = refusal_in(a);
-    RunAnswer::NoRun(x)
-}
-
-// The run to horizon h of any plan in bytes: 8 above 65,536 bytes, then the plan's own number, then 3.
-pub fn run_bytes(plan: &[u8], h: u64) -> RunAnswer
-    ensures { λ a. ⌜ a ≡ runBytes (now (plan .entry)) h ⌝ }
-{
-    if desk_rooms::too_large(plan.len()) {
-        return RunAnswer::NoRun(Refusal::Room);
-    }
-    let mut vt = [0u64; 80];
-    let mut mt = [0u64; 64];
-    let mut ot = [0u64; 256];
-    let mut ts = [0u64; 1856];
-    let a = records_read::read_rows(plan, &mut vt, &mut mt, &mut ot, &mut ts);
-    run_or(a, &vt, &mt, &ot, &ts, h)
 }

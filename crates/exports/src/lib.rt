@@ -5,7 +5,7 @@ ghost use mathlib.Core.Path.{_≡_};
 ghost use Rattle.listing.specs.Listing.{verdictText};
 ghost use Rattle.board_rules.specs.Events.{boardText};
 ghost use Rattle.listing_lines.specs.Into.{textAnswer, textAfter};
-ghost use Rattle.desk.specs.Ran.{runInto};
+ghost use Rattle.desk_clock.specs.Ran.{runInto};
 ghost use Rattle.exports_codes.specs.Exported.{exported, runExported, missedLeft};
 
 // What `verdict` prints for any input, into a lent buffer; with too little room -8, and the buffer as it was lent.
@@ -37,7 +37,7 @@ pub extern "C" fn ryefrost_run(plan: &[u8], horizon: u64, missed: &mut [u64]) ->
     if missed.len() < 3 {
         return exports_codes::run_exported(RunAnswer::NoRun(Refusal::Room));
     }
-    let a = desk::run_bytes(plan, horizon);
+    let a = desk_clock::run_bytes(plan, horizon);
     exports_codes::leave_missed(a, missed);
     exports_codes::run_exported(a)
 }

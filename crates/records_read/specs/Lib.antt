@@ -1,3 +1,4 @@
 pub mod After
 pub mod Kept
 pub mod ReadLaws
+pub mod Lies

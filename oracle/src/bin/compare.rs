@@ -7,9 +7,9 @@ use std::process::{Command, ExitCode, Stdio};
 use std::sync::atomic::{AtomicU64, Ordering};
 use std::sync::Mutex;
 
-use oracle::clock::clock_text_of;
+use oracle::clock::{clock_text_of, end_text};
 use oracle::events::board_text;
-use oracle::generate::{board_case, clock_case, plan_case};
+use oracle::generate::{board_case, clock_case, plan_case, run_case};
 use oracle::tally::{Tally, Watch};
 use oracle::verdict::verdict_text;
 
@@ -17,6 +17,7 @@ const USAGE: &str = "usage:
   compare verdict SEED COUNT SAVE PROGRAM [ARG ..]    COUNT generated plans: the listing
   compare board SEED COUNT SAVE PROGRAM [ARG ..]      COUNT generated plans with events
   compare clock SEED COUNT SAVE PROGRAM [ARG ..]      COUNT generated plans with a horizon
+  compare run SEED COUNT SAVE PROGRAM [ARG ..]        COUNT generated plans with a horizon as a number: how the run ends
   compare plans FOLDER SAVE PROGRAM [ARG ..]          the plans that FOLDER/want.tsv names, and what it wants of each
   compare events FOLDER SAVE PROGRAM [ARG ..]         every folder in FOLDER: plan.tsv (if any), events.tsv, want.tsv
   compare horizons FOLDER SAVE PROGRAM [ARG ..]       every folder in FOLDER: plan.tsv (if any), horizon.tsv, want.tsv
@@ -64,6 +65,8 @@ enum Input {
     Events(Vec<u8>),
     /// For `clock`.
     Horizon(Vec<u8>),
+    /// For the function for C: the horizon.
+    Ticks(u64, Vec<u8>),
 }
 
 impl Input {
@@ -73,6 +76,7 @@ impl Input {
             Input::Plan => None,
             Input::Events(bytes) => Some(("events.tsv", bytes)),
             Input::Horizon(bytes) => Some(("horizon.tsv", bytes)),
+            Input::Ticks(_, bytes) => Some(("horizon.txt", bytes)),
         }
     }
 }
@@ -123,6 +127,18 @@ fn run(args: &[String]) -> Result<u64, String> {
                     name: format!("board-{}-{}", seed, index),
                     plan: case.plan,
                     input: Input::Events(case.events),
+                    want: None,
+                })
+            })
+        }
+        ["run", seed, count, save, program @ ..] if !program.is_empty() => {
+            let seed = number(seed)?;
+            all(number(count)?, save, program, &|index| {
+                let case = run_case(seed, index);
+                Some(Case {
+                    name: format!("run-{}-{}", seed, index),
+                    plan: case.plan,
+                    input: Input::Ticks(case.horizon, format!("{}\n", case.horizon).into_bytes()),
                     want: None,
                 })
             })
@@ -362,6 +378,11 @@ fn one(
             let mut watch = Watch::default();
             let wanted = clock_text_of(&plan, line, &mut |step| watch.see(step));
             held.add_run(&plan, line, &wanted, &watch);
+            wanted
+        }
+        Input::Ticks(horizon, _) => {
+            let wanted = end_text(&plan, *horizon);
+            held.add_end(&plan, &wanted);
             wanted
         }
     };

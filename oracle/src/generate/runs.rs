@@ -13,9 +13,40 @@ pub struct ClockCase {
     pub horizon: Vec<u8>,
 }
 
+/// A plan file (None where it is absent) and the horizon as a number, for the function for C.
+#[derive(Clone, PartialEq, Eq, Debug)]
+pub struct RunCase {
+    pub plan: Option<Vec<u8>>,
+    pub horizon: u64,
+}
+
 /// Case `index`: mostly an accepted plan and a good line, at times damaged ones, or no plan.
 pub fn clock_case(seed: u64, index: u64) -> ClockCase {
     let chance = &mut Chance::new(seed, index, 4);
+    let (plan, ticks) = case_plan(chance);
+    let horizon = if chance.one_in(25) {
+        damaged_line(chance, ticks)
+    } else {
+        format!("horizon\t{}\n", ticks).into_bytes()
+    };
+    ClockCase { plan, horizon }
+}
+
+/// Case `index`: plans as in `clock_case`; the horizon is up to twenty times as far, and at times out of range.
+pub fn run_case(seed: u64, index: u64) -> RunCase {
+    let chance = &mut Chance::new(seed, index, 5);
+    let (plan, ticks) = case_plan(chance);
+    let horizon = match chance.below(60) {
+        0 => 0,
+        1 => TICKS + 1,
+        2 => u64::MAX,
+        _ => (ticks * chance.between(1, 20)).min(TICKS),
+    };
+    RunCase { plan, horizon }
+}
+
+/// The plan's bytes, and how many ticks of it are worth watching.
+fn case_plan(chance: &mut Chance) -> (Option<Vec<u8>>, u64) {
     let (plan, ticks) = clock_plan(chance);
     let text = match chance.below(60) {
         0 => Some(damage::damaged(chance, "twolines")),
@@ -28,15 +59,7 @@ pub fn clock_case(seed: u64, index: u64) -> ClockCase {
     } else {
         text
     };
-    let horizon = if chance.one_in(25) {
-        damaged_line(chance, ticks)
-    } else {
-        format!("horizon\t{}\n", ticks).into_bytes()
-    };
-    ClockCase {
-        plan: text,
-        horizon,
-    }
+    (text, ticks)
 }
 
 /// An accepted plan and how many ticks are worth watching.

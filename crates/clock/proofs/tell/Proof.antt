@@ -1,5 +1,5 @@
 use borrow.Author.Needs.{needs}
-use Rattle.desk.specs.Told.{left-sure}
+use Rattle.records_read.specs.Lies.{left-sure}
 use Rattle.clock.proofs.tell.Statement.{statement}
 use Rattle.clock.proofs.tell.Tie as tie
 

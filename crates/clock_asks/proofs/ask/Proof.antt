@@ -1,20 +1,31 @@
 -- `clock_asks::ask` meets its contract.
 use borrow.Author.Needs.{needs}
 use mathlib.Core.Path.{_∙_}
+use Rattle.board_rules.specs.View.{factsIn}
+use Rattle.board_rules.specs.Board.{step}
 use Rattle.board_rules.specs.declared.Event.the-variants.{Ask}
+use Rattle.clock_marks.specs.Marks.{boardOf}
+use Rattle.clock_asks.specs.Passing.{mayBy}
 use Rattle.clock_asks.specs.AskLaws.{answer-room, answer-kept}
 use Rattle.clock_asks.proofs.ask.Statement.{statement}
 use Rattle.clock_asks.proofs.ask.Tie as tie
 
 ask-sure-requires : tie.Need-ask-sure-requires
 ask-sure-requires c κs =
-    let q = c .before .before .before .before .before .before .before .before .before .before .before .before .before .pre .0 in
-    ((q .shaped .stopped-long, q .shaped .waits-long, q .marked), (q .no-fault, c .before .before .may-have .ensures ∙ q .may))
+    let a = c .before .before .before .before .before .before .before .before .before .before .before .before .before .args in
+    let q = c .before .before .before .before .before .before .before .before .before .before .before .before .before .pre .0 in (
+      (q .shaped .stopped-long, q .shaped .waits-long, q .marked),
+      (q .no-fault, _∙_ {b = mayBy (a .view .now) (a .holder .now) (a .marks .now) (a .v) (a .n) (a .m)} (c .before .before .may-have .ensures) (q .may)),
+    )
 
 tell-requires : tie.Need-tell-requires
 tell-requires c κs =
     let s = c .before .before .before .before .before .before .before .before .before .before .before .before .before .before .before .before .before .before .before in
-    answer-room (c .before .before .before .before .before .ask-sure .ensures) (s .args .on) (s .args .t) (Ask (s .args .v) (s .args .n) (s .args .m)) (s .args .out .now) (s .args .at) (s .pre .1)
+    let a = s .args in
+    let u = c .before .before .before .before .before .ask-sure in
+    answer-room {b = boardOf (a .left .now) (a .over .now) (a .stopped .now) (u .last .1 .1 .1 .1 .1 .1 .0) (u .last .1 .1 .1 .1 .1 .1 .1 .0)}
+    {u = step (factsIn (a .policy) (a .choice) (a .view .now)) (boardOf (a .left .now) (a .over .now) (a .stopped .now) (a .holder .now) (a .waits .now)) (Ask (a .v) (a .n) (a .m))} (u .ensures)
+    (a .on) (a .t) (Ask (a .v) (a .n) (a .m)) (a .out .now) (a .at) (s .pre .1)
 
 keep-requires : tie.Need-keep-requires
 keep-requires c κs =
@@ -23,10 +34,13 @@ keep-requires c κs =
 
 returns : tie.Need-returns
 returns c =
+    let a = c .before .before .before .before .before .before .before .before .before .before .before .before .before .before .before .before .before .before .before .before .before .before .before .before .before .before .before .args in
+    let u = c .before .before .before .before .before .before .before .before .before .before .before .before .before .ask-sure in
     let t = c .before .before .before .before .before .before .before .tell in
-    answer-kept (c .before .before .before .before .before .before .before .before .before .before .before .before .before .ask-sure .ensures) (c .before .before .before .before .is-wait .ensures) (c .before .before .keep .ensures) (t .ensures .1) (t .ensures .0)
+    let k = c .before .before .keep in
+    answer-kept {p = a .policy} {c = a .choice} {t = a .view .now} {ls = a .left .now} {os = a .over .now} {ss = a .stopped .now} {v = a .v} {n = a .n} {m = a .m} {hs = a .holder .now} {ws = a .waits .now} {hs′ = u .last .1 .1 .1 .1 .1 .1 .0} {ws′ = u .last .1 .1 .1 .1 .1 .1 .1 .0} {k = a .marks .now} {k′ = k .last .1 .0} {o = a .out .now} {o′ = t .last .1 .0} (u .ensures) (c .before .before .before .before .is-wait .ensures) (k .ensures) (t .ensures .1) (t .ensures .0)
 
 pub ask-spec : {M : Type 1} → statement M
 ask-spec =
     tie.close
-    (tie.spec (λ c κs. search needs) ask-sure-requires tell-requires (λ c κs. search needs) keep-requires (λ c. search needs) (λ c. search needs) (λ c. search needs) (λ c. search needs) returns)
+    (tie.spec (λ c κs. let q = c .before .before .before .before .before .before .before .before .before .before .pre .0 in (q .sized, q .v-in .from, q .v-in .to)) ask-sure-requires tell-requires (λ c κs. search needs) keep-requires (λ c. c .before .before .before .before .before .before .before .before .before .before .before .before .holder .given) (λ c. c .before .before .before .before .before .before .before .before .before .before .waits .given) (λ c. c .before .marks .given) (λ c. c .before .before .before .before .before .before .out .given) returns)

@@ -1,5 +1,4 @@
 -- `clock_asks::keep` meets its contract.
-use borrow.Author.Needs.{needs}
 use Rattle.clock_asks.specs.KeepLaws.{keeps-wait, keeps-took}
 use Rattle.clock_asks.proofs.keep.Statement.{statement}
 use Rattle.clock_asks.proofs.keep.Tie as tie
@@ -11,4 +10,4 @@ returns-2 : tie.Need-returns-2
 returns-2 c = keeps-took (c .before .before .before .before .if1 .left) (c .before .before .take .ensures)
 
 pub keep-spec : {M : Type 1} → statement M
-keep-spec = tie.close (tie.spec (λ c κs. search needs) (λ c κs. search needs) (λ c. search needs) returns (λ c. search needs) returns-2)
+keep-spec = tie.close (tie.spec (λ c κs. c .before .before .before .before .pre) (λ c κs. c .before .before .before .before .pre) (λ c. c .before .marks .given) returns (λ c. c .before .marks2 .given) returns-2)

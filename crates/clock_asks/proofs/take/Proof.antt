@@ -1,5 +1,6 @@
 -- `clock_asks::take` meets its contract.
 use borrow.Author.Needs.{needs}
+use mathlib.Core.Path.{_∙_}
 use native.Mathlib.Omega.{arith}
 use Rattle.clock_puts.specs.SizedLaws.{sized-put-held}
 use Rattle.clock_asks.specs.KeepLaws.{takes-global, takes-local}
@@ -25,4 +26,4 @@ returns-2 c =
 pub take-spec : {M : Type 1} → statement M
 take-spec =
     tie.close
-    (tie.spec (λ c κs. search needs) (λ c κs. search needs) put-in-requires (λ c κs. search needs) (λ c. search needs) returns (λ c. search needs) returns-2)
+    (tie.spec (λ c κs. search needs) (λ c κs. c .before .before .before .before .before .pre) put-in-requires (λ c κs. c .before .before .before .before .before .pre) (λ c. c .before .marks2 .given ∙ c .before .before .before .before .before .marks .given) returns (λ c. c .before .marks3 .given) returns-2)

@@ -7,7 +7,7 @@ use Rattle.clock_nexts.proofs.renew_tops.Tie as tie
 returns : tie.Need-returns
 returns c =
     let p = c .before .before .before .before .before .before .pre in
-    let w = c .before .before .renew .ensures in
+    let w = c .before .before .renew-set .ensures in
     tops-renewed (p .0) (p .1) (p .3) (p .2) (w .0) (w .1)
 
 pub renew-tops-spec : {M : Type 1} → statement M

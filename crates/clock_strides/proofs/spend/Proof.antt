@@ -5,10 +5,10 @@ use Rattle.clock_strides.proofs.spend.Statement.{statement}
 use Rattle.clock_strides.proofs.spend.Tie as tie
 
 put-more-requires : tie.Need-put-more-requires
-put-more-requires c κs = let q = c .before .before .before .before .before .before .before .before .before .before .before .before .before .before .pre in put-needs q (c .before .before .before .before .before .before .before .before .before .at .ensures) (c .before .before .before .before .before .before .before .at2 .ensures)
+put-more-requires c κs = put-needs (c .before .before .before .before .before .before .before .before .before .before .before .before .before .before .before .before .before .before .pre) (c .before .before .before .before .before .before .before .before .before .before .before .before .before .at .ensures) (c .before .before .before .before .before .before .before .before .before .before .before .at2 .ensures)
 
 returns : tie.Need-returns
-returns c = spending-is (c .before .before .before .before .before .before .before .before .before .before .before .before .before .before .at .ensures) (c .before .before .before .before .before .before .before .before .before .before .before .before .at2 .ensures) (c .before .before .before .before .before .before .before .before .before .before .losing .ensures .1) (c .before .before .before .before .before .before .before .before .lose .ensures) (c .before .before .before .before .put-more .ensures) refl (c .sub .ensures)
+returns c = spending-is (c .before .before .before .before .before .before .before .before .before .before .before .before .before .before .before .before .before .before .before .before .before .before .before .pre) (c .before .before .before .before .before .before .before .before .before .before .before .before .before .before .before .before .before .before .at .ensures) (c .before .before .before .before .before .before .before .before .before .before .before .before .before .before .before .before .at2 .ensures) (c .before .before .before .before .before .before .before .before .before .before .before .before .before .before .idling .ensures .1) (c .before .before .before .before .before .before .before .before .before .before .before .before .lose .ensures) (c .before .before .before .before .before .before .before .before .lose-own .ensures) (c .before .before .before .before .put-more .ensures) refl (c .sub .ensures)
 
 pub spend-spec : {M : Type 1} → statement M
 spend-spec =
@@ -17,6 +17,7 @@ spend-spec =
     (λ c. search needs)
     (λ c κs. search needs)
     (λ c. search needs)
+    (λ c κs. search needs)
     (λ c κs. search needs)
     (λ c κs. search needs)
     (λ c κs. search needs)

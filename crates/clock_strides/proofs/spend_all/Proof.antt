@@ -27,7 +27,7 @@ spend-requires-4 c κs =
     ready-needs r₃ (omega arith)
 
 same-length : tie.Need-same-length
-same-length c = c .before .before .before .before .before .before .spend4 .ensures .lost .lost .long ∙ c .before .before .before .before .before .before .before .before .before .before .before .before .before .before .before .before .spend3 .ensures .lost .lost .long ∙ c .before .before .before .before .before .before .before .before .before .before .before .before .before .before .before .before .before .before .before .before .before .before .before .before .before .before .spend2 .ensures .lost .lost .long ∙ c .before .before .before .before .before .before .before .before .before .before .before .before .before .before .before .before .before .before .before .before .before .before .before .before .before .before .before .before .before .before .before .before .before .before .before .before .spend .ensures .lost .lost .long
+same-length c = c .before .before .before .before .before .before .spend4 .ensures .lost .long ∙ c .before .before .before .before .before .before .before .before .before .before .before .before .before .before .before .before .spend3 .ensures .lost .long ∙ c .before .before .before .before .before .before .before .before .before .before .before .before .before .before .before .before .before .before .before .before .before .before .before .before .before .before .spend2 .ensures .lost .long ∙ c .before .before .before .before .before .before .before .before .before .before .before .before .before .before .before .before .before .before .before .before .before .before .before .before .before .before .before .before .before .before .before .before .before .before .before .before .spend .ensures .lost .long
 
 returns : tie.Need-returns
 returns c = spent-all (c .before .before .before .before .before .before .before .before .before .before .before .before .before .before .before .before .before .before .before .before .before .before .before .before .before .before .before .before .before .before .before .before .before .before .before .before .spend .ensures) (c .before .before .before .before .before .before .before .before .before .before .before .before .before .before .before .before .before .before .before .before .before .before .before .before .before .before .spend2 .ensures) (c .before .before .before .before .before .before .before .before .before .before .before .before .before .before .before .before .spend3 .ensures) (c .before .before .before .before .before .before .spend4 .ensures)

@@ -7,11 +7,11 @@ use Rattle.clock_strides.proofs.turns_on.Statement.{statement}
 use Rattle.clock_strides.proofs.turns_on.Tie as tie
 
 abbrev Inv-loop : tie.InvT-loop
-Inv-loop policy choice view times left₀ over₀ stopped₀ holder₀ waits₀ marks₀ plain₀ t c₀ left over stopped holder waits marks plain c =
-    RestOn policy choice view times (runIn left₀ over₀ stopped₀ holder₀ waits₀ marks₀) c left over stopped holder waits marks plain
+Inv-loop policy choice view times left₀ over₀ stopped₀ holder₀ waits₀ marks₀ plain₀ t look c₀ left over stopped holder waits marks plain c =
+    RestOn look policy choice view times (runIn left₀ over₀ stopped₀ holder₀ waits₀ marks₀) c left over stopped holder waits marks plain
 
 abbrev μ-loop : tie.MeasureT-loop
-μ-loop policy choice view times left₀ over₀ stopped₀ holder₀ waits₀ marks₀ plain₀ t c₀ left over stopped holder waits marks plain c =
+μ-loop policy choice view times left₀ over₀ stopped₀ holder₀ waits₀ marks₀ plain₀ t look c₀ left over stopped holder waits marks plain c =
     4 - c
 
 loop-holds : tie.Need-loop-holds Inv-loop μ-loop

@@ -27,10 +27,10 @@ lose-spec =
     (tie.spec
     (λ c κs. search needs)
     idle-uses-requires
-    (λ c. search needs)
-    (λ c. search needs)
-    (λ c. search needs)
-    (λ c. search needs)
-    (λ c. search needs)
+    (λ c. c .before .before .before .before .before .before .before .before .before .left .given)
+    (λ c. c .before .before .before .before .before .before .before .over .given)
+    (λ c. c .before .before .before .before .before .stopped .given)
+    (λ c. c .before .before .before .marks .given)
+    (λ c. c .before .out .given)
     returns
     returns-2)

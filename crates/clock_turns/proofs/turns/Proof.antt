@@ -3,7 +3,7 @@ use Prim.Native.Nat.{_-_}
 use mathlib.Core.Path.{sym, _∙_}
 use native.Mathlib.Omega.{arith}
 use Rattle.clock_marks.specs.Marks.{runIn}
-use Rattle.clock_turns.specs.AllTurns.{Rest, rest-first, rest-last, rest-more, turn-room}
+use Rattle.clock_turns.specs.AllTurns.{Rest, rest-first, rest-last, rest-more, turn-may}
 use Rattle.clock_turns.proofs.turns.Statement.{statement}
 use Rattle.clock_turns.proofs.turns.Tie as tie
 
@@ -18,10 +18,7 @@ loop-holds : tie.Need-loop-holds Inv-loop μ-loop
 loop-holds c = let q = c .before .before .before .before .before .before .before .before .before .pre in rest-first (q .0) (q .1)
 
 turn-requires : tie.Need-turn-requires Inv-loop μ-loop
-turn-requires c κs =
-    let i = c .before .before .before .before .before .before .before .before .loop .inv in
-    let l = c .before .before .before .before .before .before .before .loop-test .taken in
-    ((i .going, omega arith), turn-room i (omega arith))
+turn-requires c κs = turn-may (c .before .before .before .before .before .before .before .before .loop .inv) (c .before .before .before .before .before .before .before .loop-test .taken)
 
 add-c : tie.Need-add-c Inv-loop μ-loop
 add-c c = let l = c .before .before .before .before .before .before .before .before .before .before .before .before .before .before .before .before .before .before .before .before .before .before .loop-test .taken in omega arith
@@ -32,8 +29,9 @@ loop-less c = let l = c .before .before .before .before .before .before .before 
 loop-again : tie.Need-loop-again Inv-loop μ-loop
 loop-again c =
     let i = c .before .before .before .before .before .before .before .before .before .before .before .before .before .before .before .before .before .before .before .before .before .before .before .loop .inv in
-    let l = c .before .before .before .before .before .before .before .before .before .before .before .before .before .before .before .before .before .before .before .before .before .before .loop-test .taken in
-    rest-more i (omega arith) (c .before .before .before .before .before .before .before .before .before .before .before .before .before .before .turn .ensures .0)
+    let u = c .before .before .before .before .before .before .before .before .before .before .before .before .before .before .turn in
+    let y = u .last in
+    rest-more i (c .before .before .before .before .before .before .before .before .before .before .before .before .before .before .before .before .before .before .before .before .before .before .loop-test .taken) {ls₁ = y .1 .1 .1 .1 .1 .0} {os₁ = y .1 .1 .1 .1 .1 .1 .0} {ss₁ = y .1 .1 .1 .1 .1 .1 .1 .0} {hs₁ = y .1 .1 .1 .1 .1 .1 .1 .1 .0} {ws₁ = y .1 .1 .1 .1 .1 .1 .1 .1 .1 .0} {k₁ = y .1 .1 .1 .1 .1 .1 .1 .1 .1 .1 .0} {o₁ = y .1 .1 .1 .1 .1 .1 .1 .1 .1 .1 .1 .1 .1 .1 .1 .0} (u .ensures .0)
 
 same-length : tie.Need-same-length Inv-loop μ-loop
 same-length c = c .before .loop .inv .going .running .shaped .left-long ∙ sym (c .before .before .before .before .before .before .before .before .before .before .before .pre .0 .running .shaped .left-long)

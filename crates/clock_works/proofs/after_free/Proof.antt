@@ -1,5 +1,5 @@
 -- `after_free` meets its contract.
-use mathlib.Core.Path.{subst}
+use mathlib.Core.Path.{subst, _∙_}
 use native.Mathlib.Omega.{arith}
 use borrow.Author.Needs.{needs}
 use Rattle.clock_marks.specs.Changes.{PutIn}
@@ -29,8 +29,8 @@ put-in-requires c κs =
     let y = passed-sized (a .view .now) (a .holder .now) (a .next) (c .before .before .before .before .before .passed .last .1 .1 .0) z (q .5) (c .before .before .before .before .before .passed .ensures) in
     (y, omega arith, q .1, q .2)
 
-put-supply-requires : tie.Need-put-supply-requires
-put-supply-requires c κs =
+after-use-requires : tie.Need-after-use-requires
+after-use-requires c κs =
     let a = c .before .before .before .before .before .before .before .before .before .before .before .before .before .before .before .before .before .before .before .before .before .args in
     let q = c .before .before .before .before .before .before .before .before .before .before .before .before .before .before .before .before .before .before .before .before .before .pre in
     let z = sized-put-held (q .0) (record { from = q .1; to = q .2 }) (record { from = q .3; to = q .4 }) (c .before .before .before .before .before .before .before .before .before .before .before .before .before .put-held .ensures) in
@@ -45,9 +45,9 @@ returns c = record {
   held = c .before .before .before .before .before .before .before .before .before .before .before .before .before .before .before .before .put-held .ensures;
   passed = c .before .before .before .before .before .before .before .before .before .before .before .before .passed .ensures;
   holding = subst (PutIn _ _ 3 (c .before .before .before .before .before .before .before .before .before .before .before .before .before .before .before .before .before .before .before .before .before .before .before .before .args .v)) (c .before .before .before .before .before .before .before .before .holds-in .ensures) (c .before .before .before .before .before .before .put-in .ensures);
-  supply = c .before .before .put-supply .ensures;
+  supply = c .before .before .after-use .ensures;
 }
 
 pub after-free-spec : {M : Type 1} → statement M
 after-free-spec =
-    tie.close (tie.spec (λ c κs. search needs) passed-requires holds-in-requires put-in-requires put-supply-requires (λ c. search needs) returns)
+    tie.close (tie.spec (λ c κs. search needs) passed-requires holds-in-requires put-in-requires after-use-requires (λ c. c .before .before .after-use .kept .1 .1 .1 .1 .0 ∙ c .before .before .before .before .before .before .put-in .kept .0 ∙ c .before .before .before .before .before .before .before .before .before .before .before .before .passed .kept .1 .1 .0 ∙ c .before .before .before .before .before .before .before .before .before .before .before .before .before .before .before .before .put-held .kept .0) returns)

@@ -1,4 +1,5 @@
 -- `handed` meets its contract.
+use mathlib.Core.Path.{_∙_}
 use native.Mathlib.Omega.{arith}
 use borrow.Author.Needs.{needs}
 use Rattle.board_rules.specs.Names.{InV}
@@ -28,4 +29,4 @@ returns c = record {
 }
 
 pub handed-spec : {M : Type 1} → statement M
-handed-spec = tie.close (tie.spec (λ c κs. search needs) put-ready-requires put-in-requires (λ c. search needs) returns)
+handed-spec = tie.close (tie.spec (λ c κs. search needs) put-ready-requires put-in-requires (λ c. c .before .before .put-in .kept .0 ∙ c .before .before .before .before .before .before .put-ready .kept .0 ∙ c .before .before .before .before .before .before .before .before .before .before .put-held .kept .0) returns)

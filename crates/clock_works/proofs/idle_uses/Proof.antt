@@ -1,7 +1,7 @@
 -- `idle_uses` meets its contract. The loop's invariant: the uses of the VCPUs up to some number are made, and the others are in the set.
 use Prim.Native.Nat.{_<_}
 use mathlib.Core.Path.{_≡_, refl, sym, subst, _∙_}
-use mathlib.Core.Logic.{⊎-elim}
+use mathlib.Core.Logic.{inl, inr}
 use borrow.Author.Needs.{needs}
 use lib.ListN.{length}
 use Rattle.board_rules.specs.View.{factsIn}
@@ -13,8 +13,8 @@ use Rattle.clock_sets.proofs.lowest_in.Reads as lowest-in-reads
 use Rattle.clock_sets.proofs.without.Reads as without-reads
 use Rattle.clock_marks.specs.Marks.{runIn, doneIn}
 use Rattle.clock_going.specs.Going.{timingBy, Going}
-use Rattle.clock_works.specs.Idling.{Idling, idling-first, idling-all, idling-more, idling-less, next-in, next-room, next-length}
-use Rattle.clock_works.specs.Using.{going-shaped, going-marked-any, going-vcpu, use-room, within-result, UsedOne, used-one}
+use Rattle.clock_works.specs.Idling.{Idling, idling-first, idling-taken, idling-all, idling-more, idling-less, next-in, next-taken, next-room, next-length}
+use Rattle.clock_works.specs.Using.{going-marked-any, going-vcpu, use-room, within-result, UsedOne, used-one}
 use Rattle.clock_works.proofs.use_one.Reads as use-one-reads
 use Rattle.clock_works.proofs.idle_uses.Reads as reads
 use Rattle.clock_works.proofs.idle_uses.Lts as lts
@@ -48,7 +48,7 @@ use-within-requires c κs =
     let i = c .before .before .before .before .before .before .before .before .loop .inv in
     let nz = c .before .before .before .before .before .before .before .loop-test .taken in
     let g = i .1 in
-    let s = going-shaped g in
+    let s = g .running .shaped in
     let v = next-in (i .0) nz _ (c .before .before .before .before .before .before .lowest-in .ensures .0) in
     let m = subst (λ y. 1 < y) (c .before .before .before .before .figure .ensures) (c .before .before .before .if1 .taken) in
     (s .left-long, s .over-long, s .stopped-long, λ ws. going-marked-any g _ ws, going-vcpu g _ v m, m)
@@ -60,7 +60,9 @@ tell-requires c κs =
     let l = c .before .before .before .before .before .before .before .before .before .before .before .before .loop in
     let i = l .inv in
     let nz = c .before .before .before .before .before .before .before .before .before .before .before .loop-test .taken in
-    use-room (i .1) _ (c .before .before .before .use-within .ensures (a .waits .now)) (a .on) (a .t) (l .out) (l .w) (next-room (i .0) nz _ (c .before .before .before .before .before .before .before .before .before .before .lowest-in .ensures .0) (f .pre .1))
+    let u = c .before .before .before .use-within in
+    let n = c .before .before .before .before .before .before .before .before .before .before .lowest-in in
+    use-room (i .1) (n .result) {y = u .result} (u .ensures (a .waits .now)) (a .on) (a .t) (l .out) (l .w) (next-room (i .0) nz (n .result) (n .ensures .0) (f .pre .1))
 
 use-one-requires : tie.Need-use-one-requires Inv-loop μ-loop
 use-one-requires c κs =
@@ -68,7 +70,8 @@ use-one-requires c κs =
     let nz = c .before .before .before .before .before .before .before .before .before .loop-test .taken in
     let l = c .before .before .before .before .before .before .before .before .lowest-in .ensures .0 in
     let v = next-in (i .0) nz _ l in
-    ((v .from, v .to, i .1), next-room (i .0) nz _ l (c .before .before .before .before .before .before .before .before .before .before .before .before .before .before .before .before .before .before .before .before .before .before .pre .1))
+    let f = c .before .before .before .before .before .before .before .before .before .before .before .before .before .before .before .before .before .before .before .before .before .before in
+    ((v .from, v .to, i .1, next-taken (i .0) nz _ l (idling-taken (f .pre .0 .2) (f .args .c))), next-room (i .0) nz _ l (f .pre .1))
 
 -- where the two ways meet the tick is used
 abbrev Met : Type 0
@@ -99,15 +102,15 @@ used-now c =
     let a = c .before .before .before .before .before .before .before .before .before .before .before .before .before .before .before .before .before .args in
     let l = c .before .before .before .before .before .loop in
     let v = c .before .before .before .lowest-in .result in
-    ⊎-elim
-    (λ w.
-    used-one (a .policy) (a .choice) (a .view .now) (a .times .now) (l .left) (l .over) (l .stopped) (a .holder .now) (a .waits .now) (l .marks) (a .on) (a .t) v (l .out) (l .w)
-    (within-result (l .inv .1) v (w .4 .ensures (a .waits .now)) (a .on) (a .t) (l .out) (l .w) (subst (λ y. 1 < y) (c .before .figure .ensures) (w .0 .taken)) (w .8 .ensures .0) (w .8 .ensures .1))
-    (w .11) (w .12) (w .13) (w .14) (w .15) (w .16))
-    (λ w.
-    used-one (a .policy) (a .choice) (a .view .now) (a .times .now) (l .left) (l .over) (l .stopped) (a .holder .now) (a .waits .now) (l .marks) (a .on) (a .t) v (l .out) (l .w)
-    (w .6 .ensures) (w .17) (w .18) (w .19) (w .20) (w .21) (w .22))
-    (c .if1 .came)
+    elim (c .if1 .came) [
+      | inl w ↦
+          used-one (a .policy) (a .choice) (a .view .now) (a .times .now) (l .left) (l .over) (l .stopped) (a .holder .now) (a .waits .now) (l .marks) (a .on) (a .t) v (l .out) (l .w)
+          (within-result (l .inv .1) v {y = w .4 .result} (w .4 .ensures (a .waits .now)) (a .on) (a .t) (l .out) (l .w) (subst (λ y. 1 < y) (c .before .figure .ensures) (w .0 .taken)) (w .8 .ensures .0) (w .8 .ensures .1))
+          (w .11) (w .12) (w .13) (w .14) (w .15) (w .16)
+      | inr w ↦
+          used-one (a .policy) (a .choice) (a .view .now) (a .times .now) (l .left) (l .over) (l .stopped) (a .holder .now) (a .waits .now) (l .marks) (a .on) (a .t) v (l .out) (l .w)
+          {ls₁ = w .6 .last .1 .1 .1 .1 .1 .0} {os₁ = w .6 .last .1 .1 .1 .1 .1 .1 .0} {ss₁ = w .6 .last .1 .1 .1 .1 .1 .1 .1 .0} {k₁ = w .6 .last .1 .1 .1 .1 .1 .1 .1 .1 .1 .1 .0} {b₁ = w .6 .last .1 .1 .1 .1 .1 .1 .1 .1 .1 .1 .1 .1 .1 .0} {w₁ = w .6 .result} (w .6 .ensures) (w .17) (w .18) (w .19) (w .20) (w .21) (w .22)
+    ]
 
 without-requires : tie.Need-without-requires Inv-loop μ-loop
 without-requires c κs =
@@ -128,13 +131,13 @@ loop-again c =
     (idling-more (i .0) nz _ l r (u .made) (c .without .ensures), u .going, u .done-same ∙ i .2, next-length (i .0) nz _ l r (u .made) ∙ i .3)
 
 same-length : tie.Need-same-length Inv-loop μ-loop
-same-length c = going-shaped (c .before .loop .inv .1) .left-long ∙ sym (going-shaped (c .before .before .before .before .before .before .before .before .before .before .before .before .before .pre .0 .2) .left-long)
+same-length c = c .before .loop .inv .1 .running .shaped .left-long ∙ sym (c .before .before .before .before .before .before .before .before .before .before .before .before .before .pre .0 .2 .running .shaped .left-long)
 
 same-length-2 : tie.Need-same-length-2 Inv-loop μ-loop
-same-length-2 c = going-shaped (c .before .loop .inv .1) .over-long ∙ sym (going-shaped (c .before .before .before .before .before .before .before .before .before .before .before .before .before .pre .0 .2) .over-long)
+same-length-2 c = c .before .loop .inv .1 .running .shaped .over-long ∙ sym (c .before .before .before .before .before .before .before .before .before .before .before .before .before .pre .0 .2 .running .shaped .over-long)
 
 same-length-3 : tie.Need-same-length-3 Inv-loop μ-loop
-same-length-3 c = going-shaped (c .before .loop .inv .1) .stopped-long ∙ sym (going-shaped (c .before .before .before .before .before .before .before .before .before .before .before .before .before .pre .0 .2) .stopped-long)
+same-length-3 c = c .before .loop .inv .1 .running .shaped .stopped-long ∙ sym (c .before .before .before .before .before .before .before .before .before .before .before .before .before .pre .0 .2 .running .shaped .stopped-long)
 
 same-length-4 : tie.Need-same-length-4 Inv-loop μ-loop
 same-length-4 c = c .before .loop .inv .1 .mirrors .sized .long ∙ sym (c .before .before .before .before .before .before .before .before .before .before .before .before .before .pre .0 .2 .mirrors .sized .long)

@@ -1,4 +1,5 @@
 -- `one_more` meets its contract.
+use mathlib.Core.Path.{_∙_}
 use borrow.Author.Needs.{needs}
 use Rattle.clock_works.specs.Worked.{job-sized, more-last, more-on}
 use Rattle.clock_works.proofs.one_more.Statement.{statement}
@@ -30,7 +31,7 @@ one-more-spec =
     (λ c κs. search needs)
     (λ c κs. search needs)
     put-ready-requires
-    (λ c. search needs)
+    (λ c. c .before .before .put-ready .kept .0 ∙ c .before .before .before .before .before .before .before .put-job .kept .0)
     returns
-    (λ c. search needs)
+    (λ c. c .before .before .before .put-job .kept .0)
     returns-2)

@@ -44,4 +44,4 @@ returns-3 c =
 
 pub passed-spec : {M : Type 1} → statement M
 passed-spec =
-    tie.close (tie.spec (λ c. search needs) (λ c. search needs) handed-requires held-now-requires holds-global-requires handed-requires-2 returns (λ c. search needs) returns-2 (λ c. search needs) returns-3)
+    tie.close (tie.spec (λ c. search needs) (λ c. search needs) handed-requires held-now-requires holds-global-requires handed-requires-2 returns (λ c. c .before .before .handed .kept .0) returns-2 (λ c. c .before .before .handed2 .kept .0) returns-3)

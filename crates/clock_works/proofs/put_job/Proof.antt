@@ -1,4 +1,5 @@
 -- `put_job` meets its contract.
+use mathlib.Core.Path.{_∙_}
 use native.Mathlib.Omega.{arith}
 use borrow.Author.Needs.{needs}
 use Rattle.clock_works.specs.Worked.{job-done, job-ended, place-before, sized-before}
@@ -35,7 +36,7 @@ put-job-spec =
     (λ c κs. search needs)
     add-q
     put-place-requires
-    (λ c. search needs)
+    (λ c. c .before .before .put-place .kept .0 ∙ c .before .before .before .before .before .before .before .before .before .put-done .kept .0)
     returns
-    (λ c. search needs)
+    (λ c. c .before .before .before .put-done .kept .0)
     returns-2)

@@ -1,15 +1,15 @@
 -- `work` meets its contract.
 use Prim.Native.Nat.{_<_}
 use mathlib.Core.Path.{sym, subst, _∙_}
-use mathlib.Core.Logic.{⊎-elim}
+use mathlib.Core.Logic.{inl, inr}
 use borrow.Author.Needs.{needs}
 use Rattle.board_rules.proofs.Board.use_within.Reads as use-within-reads
 use Rattle.board_seats.proofs.figure.Reads as figure-reads
 use Rattle.clock_lines.proofs.tell.Reads as tell-reads
 use Rattle.clock_picks.proofs.over.Reads as over-reads
 use Rattle.clock_works.specs.Making.{made-length}
-use Rattle.clock_works.specs.Using.{going-shaped, going-marked-any, going-vcpu, use-room, within-result, UsedOne, used-one}
-use Rattle.clock_works.specs.Worked.{use-fits, over-fits, free-fits, work-frees, more-fits, work-hands, work-result}
+use Rattle.clock_works.specs.Using.{going-marked-any, going-vcpu, use-room, within-result, UsedOne, used-one}
+use Rattle.clock_works.specs.Worked.{work-uses, use-fits, over-fits, free-fits, work-frees, more-fits, work-hands, work-result}
 use Rattle.clock_works.proofs.freeing.Reads as freeing-reads
 use Rattle.clock_works.proofs.one_more.Reads as one-more-reads
 use Rattle.clock_works.proofs.use_one.Reads as use-one-reads
@@ -22,7 +22,7 @@ use-within-requires : tie.Need-use-within-requires
 use-within-requires c κs =
     let f = c .before .before .before .before .before .before .before .before .before .before .before .before .before .before .before .before in
     let g = f .pre .0 .0 in
-    let s = going-shaped g in
+    let s = g .running .shaped in
     let l = c .before .before .before .before .if1 .taken in
     let e = c .before .before .before .before .before .figure .ensures in
     let m = subst (λ y. 1 < y) e l in
@@ -33,14 +33,15 @@ tell-requires c κs =
     let f = c .before .before .before .before .before .before .before .before .before .before .before .before .before .before .before .before .before .before .before .before in
     let a = f .args in
     let q = f .pre in
-    use-room (q .0 .0) (a .v) (c .before .before .before .use-within .ensures (a .waits .now)) (a .on) (a .t) (a .out .now) (a .at) (use-fits (q .0 .0) (a .v) (a .n) (q .0 .1) (a .on) (a .t) (a .out .now) (a .at) (q .1))
+    let u = c .before .before .before .use-within in
+    use-room (q .0 .0) (a .v) {y = u .result} (u .ensures (a .waits .now)) (a .on) (a .t) (a .out .now) (a .at) (use-fits (q .0 .0) (a .v) (a .n) (q .0 .1) (a .on) (a .t) (a .out .now) (a .at) (q .1))
 
 use-one-requires : tie.Need-use-one-requires
 use-one-requires c κs =
     let a = c .before .before .before .before .before .before .before .before .before .before .before .before .before .before .before .before .before .before .before .args in
     let q = c .before .before .before .before .before .before .before .before .before .before .before .before .before .before .before .before .before .before .before .pre in
     let i = q .0 .1 .worker .chosen .v-in in
-    ((i .from, i .to, q .0 .0), use-fits (q .0 .0) (a .v) (a .n) (q .0 .1) (a .on) (a .t) (a .out .now) (a .at) (q .1))
+    ((i .from, i .to, q .0 .0, work-uses (q .0 .0) (a .v) (a .n) (q .0 .1) (a .on) (a .t) (a .out .now) (a .at) (q .1)), use-fits (q .0 .0) (a .v) (a .n) (q .0 .1) (a .on) (a .t) (a .out .now) (a .at) (q .1))
 
 -- where the two ways meet the tick is used
 abbrev Met : Type 0
@@ -68,15 +69,15 @@ used-now : (c : Met) → (let a = c .before .before .before .before .before .bef
 used-now c =
     let a = c .before .before .before .before .before .before .before .before .before .before .before .before .args in
     let q = c .before .before .before .before .before .before .before .before .before .before .before .before .pre in
-    ⊎-elim
-    (λ w.
-    used-one (a .policy) (a .choice) (a .view .now) (a .times .now) (a .left .now) (a .over .now) (a .stopped .now) (a .holder .now) (a .waits .now) (a .marks .now) (a .on) (a .t) (a .v) (a .out .now) (a .at)
-    (within-result (q .0 .0) (a .v) (w .5 .ensures (a .waits .now)) (a .on) (a .t) (a .out .now) (a .at) (subst (λ y. 1 < y) (c .before .figure .ensures) (w .0 .taken)) (w .9 .ensures .0) (w .9 .ensures .1))
-    (w .12) (w .13) (w .14) (w .15) (w .16) (w .17))
-    (λ w.
-    used-one (a .policy) (a .choice) (a .view .now) (a .times .now) (a .left .now) (a .over .now) (a .stopped .now) (a .holder .now) (a .waits .now) (a .marks .now) (a .on) (a .t) (a .v) (a .out .now) (a .at)
-    (w .8 .ensures) (w .19) (w .20) (w .21) (w .22) (w .23) (w .24))
-    (c .if1 .came)
+    elim (c .if1 .came) [
+      | inl w ↦
+          used-one (a .policy) (a .choice) (a .view .now) (a .times .now) (a .left .now) (a .over .now) (a .stopped .now) (a .holder .now) (a .waits .now) (a .marks .now) (a .on) (a .t) (a .v) (a .out .now) (a .at)
+          (within-result (q .0 .0) (a .v) {y = w .5 .result} (w .5 .ensures (a .waits .now)) (a .on) (a .t) (a .out .now) (a .at) (subst (λ y. 1 < y) (c .before .figure .ensures) (w .0 .taken)) (w .9 .ensures .0) (w .9 .ensures .1))
+          (w .12) (w .13) (w .14) (w .15) (w .16) (w .17)
+      | inr w ↦
+          used-one (a .policy) (a .choice) (a .view .now) (a .times .now) (a .left .now) (a .over .now) (a .stopped .now) (a .holder .now) (a .waits .now) (a .marks .now) (a .on) (a .t) (a .v) (a .out .now) (a .at)
+          {ls₁ = w .8 .last .1 .1 .1 .1 .1 .0} {os₁ = w .8 .last .1 .1 .1 .1 .1 .1 .0} {ss₁ = w .8 .last .1 .1 .1 .1 .1 .1 .1 .0} {k₁ = w .8 .last .1 .1 .1 .1 .1 .1 .1 .1 .1 .1 .0} {b₁ = w .8 .last .1 .1 .1 .1 .1 .1 .1 .1 .1 .1 .1 .1 .1 .0} {w₁ = w .8 .result} (w .8 .ensures) (w .19) (w .20) (w .21) (w .22) (w .23) (w .24)
+    ]
 
 over-requires : tie.Need-over-requires
 over-requires c κs =
@@ -105,29 +106,31 @@ one-more-requires c κs =
     let a = c .before .before .before .before .before .before .before .before .before .before .before .before .before .before .before .before .before .before .before .before .before .before .before .before .before .before .before .before .before .before .before .before .before .args in
     let q = c .before .before .before .before .before .before .before .before .before .before .before .before .before .before .before .before .before .before .before .before .before .before .before .before .before .before .before .before .before .before .before .before .before .pre in
     let u = used-now (c .before .before .before .before .before .before .before .before .before .before .before .before .before .before .before .before .before .before .before .before .before) in
-    let f = c .before .before .before .before .before .before .before .before .before .before .before .freeing .ensures in
-    more-fits (q .0 .0) (a .v) (a .n) (q .0 .1) (a .on) (a .t) (a .out .now) (a .at) (q .1) (u .going) (u .made) (u .done-same) (c .before .before .before .before .before .before .before .before .before .before .before .before .before .before .before .before .before .before .before .over2 .result) (c .before .before .before .before .before .before .before .before .before .before .before .before .before .before .before .before .before .before .before .over2 .ensures) (f .0) (f .1 .0) (f .1 .1 .0)
+    let f = c .before .before .before .before .before .before .before .before .before .before .before .freeing in
+    let m = c .before .before .before .before .before .before .before .before .before .before .before .before .before .before .before .before .before .before .before .over2 in
+    more-fits (q .0 .0) (a .v) (a .n) (q .0 .1) (a .on) (a .t) (a .out .now) (a .at) (q .1) (u .going) (u .made) (u .done-same) (m .result) (m .ensures) {ss₂ = f .last .1 .1 .1 .1 .1 .1 .1 .0} {hs₂ = f .last .1 .1 .1 .1 .1 .1 .1 .1 .0} {ws₂ = f .last .1 .1 .1 .1 .1 .1 .1 .1 .1 .0} {k₂ = f .last .1 .1 .1 .1 .1 .1 .1 .1 .1 .1 .0} (f .ensures .0) {a₂ = f .last .1 .1 .1 .1 .1 .1 .1 .1 .1 .1 .1 .1 .1 .1 .1 .0} {w₂ = f .result .at} (f .ensures .1 .0) (f .ensures .1 .1 .0)
 
 returns : tie.Need-returns
 returns c =
     let a = c .before .before .before .before .before .before .before .before .before .before .before .before .before .before .before .before .before .before .before .before .before .before .before .before .before .before .before .before .before .before .before .before .before .before .before .before .args in
     let q = c .before .before .before .before .before .before .before .before .before .before .before .before .before .before .before .before .before .before .before .before .before .before .before .before .before .before .before .before .before .before .before .before .before .before .before .before .pre in
     let u = used-now (c .before .before .before .before .before .before .before .before .before .before .before .before .before .before .before .before .before .before .before .before .before .before .before .before) in
-    let f = c .before .before .before .before .before .before .before .before .before .before .before .before .before .before .freeing .ensures in
-    let w = work-result (q .0 .0) (a .v) (a .n) (q .0 .1) (a .on) (a .t) (a .out .now) (a .at) (q .1) (u .going) (u .made) (u .done-same) (c .before .before .before .before .before .before .before .before .before .before .before .before .before .before .before .before .before .before .before .before .before .before .over2 .result) (c .before .before .before .before .before .before .before .before .before .before .before .before .before .before .before .before .before .before .before .before .before .before .over2 .ensures) (f .0) (f .1 .0) (f .1 .1 .0) (c .before .before .one-more .ensures) in
-    (w .0, (w .1 .0, (w .1 .1, work-hands (q .0 .0) (a .v) (a .n) (q .0 .1) (a .on) (a .t) (a .out .now) (a .at) (q .1) (u .going) (u .made) (u .done-same) (c .before .before .before .before .before .before .before .before .before .before .before .before .before .before .before .before .before .before .before .before .before .before .over2 .result) (c .before .before .before .before .before .before .before .before .before .before .before .before .before .before .before .before .before .before .before .before .before .before .over2 .ensures) (f .1 .1 .1))))
+    let f = c .before .before .before .before .before .before .before .before .before .before .before .before .before .before .freeing in
+    let m = c .before .before .before .before .before .before .before .before .before .before .before .before .before .before .before .before .before .before .before .before .before .before .over2 in
+    let w = work-result (q .0 .0) (a .v) (a .n) (q .0 .1) (a .on) (a .t) (a .out .now) (a .at) (q .1) (u .going) (u .made) (u .done-same) (m .result) (m .ensures) {ss₂ = f .last .1 .1 .1 .1 .1 .1 .1 .0} {hs₂ = f .last .1 .1 .1 .1 .1 .1 .1 .1 .0} {ws₂ = f .last .1 .1 .1 .1 .1 .1 .1 .1 .1 .0} {k₂ = f .last .1 .1 .1 .1 .1 .1 .1 .1 .1 .1 .0} (f .ensures .0) {a₂ = f .last .1 .1 .1 .1 .1 .1 .1 .1 .1 .1 .1 .1 .1 .1 .1 .0} {w₂ = f .result .at} (f .ensures .1 .0) (f .ensures .1 .1 .0) (c .before .before .one-more .ensures) in
+    (w .0, (w .1 .0, (w .1 .1, work-hands (q .0 .0) (a .v) (a .n) (q .0 .1) (a .on) (a .t) (a .out .now) (a .at) (q .1) (u .going) (u .made) (u .done-same) (m .result) (m .ensures) (f .ensures .1 .1 .1))))
 
 same-length : tie.Need-same-length
-same-length c = going-shaped (returns c .0) .left-long ∙ sym (going-shaped (c .before .before .before .before .before .before .before .before .before .before .before .before .before .before .before .before .before .before .before .before .before .before .before .before .before .before .before .before .before .before .before .before .before .before .before .before .pre .0 .0) .left-long)
+same-length c = used-now (c .before .before .before .before .before .before .before .before .before .before .before .before .before .before .before .before .before .before .before .before .before .before .before .before) .going .running .shaped .left-long ∙ sym (c .before .before .before .before .before .before .before .before .before .before .before .before .before .before .before .before .before .before .before .before .before .before .before .before .before .before .before .before .before .before .before .before .before .before .before .before .pre .0 .0 .running .shaped .left-long)
 
 same-length-2 : tie.Need-same-length-2
-same-length-2 c = going-shaped (returns c .0) .over-long ∙ sym (going-shaped (c .before .before .before .before .before .before .before .before .before .before .before .before .before .before .before .before .before .before .before .before .before .before .before .before .before .before .before .before .before .before .before .before .before .before .before .before .pre .0 .0) .over-long)
+same-length-2 c = used-now (c .before .before .before .before .before .before .before .before .before .before .before .before .before .before .before .before .before .before .before .before .before .before .before .before) .going .running .shaped .over-long ∙ sym (c .before .before .before .before .before .before .before .before .before .before .before .before .before .before .before .before .before .before .before .before .before .before .before .before .before .before .before .before .before .before .before .before .before .before .before .before .pre .0 .0 .running .shaped .over-long)
 
 same-length-3 : tie.Need-same-length-3
-same-length-3 c = going-shaped (returns c .0) .stopped-long ∙ sym (going-shaped (c .before .before .before .before .before .before .before .before .before .before .before .before .before .before .before .before .before .before .before .before .before .before .before .before .before .before .before .before .before .before .before .before .before .before .before .before .pre .0 .0) .stopped-long)
+same-length-3 c = c .before .before .before .before .before .before .before .before .before .before .before .before .before .before .freeing .kept .1 .1 .1 .1 .1 .1 .1 .0 ∙ used-now (c .before .before .before .before .before .before .before .before .before .before .before .before .before .before .before .before .before .before .before .before .before .before .before .before) .going .running .shaped .stopped-long ∙ sym (c .before .before .before .before .before .before .before .before .before .before .before .before .before .before .before .before .before .before .before .before .before .before .before .before .before .before .before .before .before .before .before .before .before .before .before .before .pre .0 .0 .running .shaped .stopped-long)
 
 same-length-6 : tie.Need-same-length-6
-same-length-6 c = returns c .0 .mirrors .sized .long ∙ sym (c .before .before .before .before .before .before .before .before .before .before .before .before .before .before .before .before .before .before .before .before .before .before .before .before .before .before .before .before .before .before .before .before .before .before .before .before .pre .0 .0 .mirrors .sized .long)
+same-length-6 c = c .before .before .one-more .kept .1 .0 ∙ c .before .before .before .before .before .before .before .before .before .before .before .before .before .before .freeing .kept .1 .1 .1 .1 .1 .1 .1 .1 .1 .1 .0 ∙ used-now (c .before .before .before .before .before .before .before .before .before .before .before .before .before .before .before .before .before .before .before .before .before .before .before .before) .going .mirrors .sized .long ∙ sym (c .before .before .before .before .before .before .before .before .before .before .before .before .before .before .before .before .before .before .before .before .before .before .before .before .before .before .before .before .before .before .before .before .before .before .before .before .pre .0 .0 .mirrors .sized .long)
 
 same-length-7 : tie.Need-same-length-7
 same-length-7 c = made-length (returns c .1 .0) (c .before .before .before .before .before .before .before .before .before .before .before .before .before .before .before .before .before .before .before .before .before .before .before .before .before .before .before .before .before .before .before .before .before .before .before .before .pre .1)
@@ -146,8 +149,8 @@ work-spec =
     same-length
     same-length-2
     same-length-3
-    (λ c. search needs)
-    (λ c. search needs)
+    (λ c. c .before .before .before .before .before .before .before .before .before .before .before .before .before .before .freeing .kept .1 .1 .1 .1 .1 .1 .1 .1 .0)
+    (λ c. c .before .before .before .before .before .before .before .before .before .before .before .before .before .before .freeing .kept .1 .1 .1 .1 .1 .1 .1 .1 .1 .0)
     same-length-6
     same-length-7
     returns)

@@ -1,6 +1,7 @@
 -- `text_of` meets its contract.
 use borrow.Author.Needs.{needs}
-use Rattle.desk.specs.Told.{left-sure, left-text}
+use Rattle.records_read.specs.Lies.{left-sure}
+use Rattle.desk.specs.Told.{left-text}
 use Rattle.desk.proofs.text_of.Statement.{statement}
 use Rattle.desk.proofs.text_of.Tie as tie
 

@@ -5,7 +5,7 @@ use mathlib.Core.List.{List}
 use lib.ListN.{length}
 use borrow.Author.Needs.{needs}
 use Rattle.clock_rules.specs.declared.RunAnswer.{RunAnswer}
-use Rattle.desk.specs.Ran.{runInto, into-few, into-ran}
+use Rattle.desk_clock.specs.Ran.{runInto, into-few, into-ran}
 use Rattle.exports_codes.specs.Exported.{runExported, missedLeft, run-fits, read-back}
 use Rattle.exports.proofs.ryefrost_run.Statement.{statement}
 use Rattle.exports.proofs.ryefrost_run.Tie as tie

@@ -17,7 +17,7 @@ any-same zero h = refl
 any-same (suc n) h = ap₂ _||_ (h (suc n) (omega arith) (omega arith)) (any-same n (λ k a l. h k a (omega arith)))
 
 -- all pass the one where all pass the other
-all-same : (n : ℕ) {f g : ℕ → Bool} → ((k : ℕ) → 0 < k → k ≤ n → f k ≡ g k) → allTo n f ≡ allTo n g
+pub all-same : (n : ℕ) {f g : ℕ → Bool} → ((k : ℕ) → 0 < k → k ≤ n → f k ≡ g k) → allTo n f ≡ allTo n g
 unfolding allTo
 all-same zero h = refl
 all-same (suc n) h = ap₂ _&&_ (h (suc n) (omega arith) (omega arith)) (all-same n (λ k a l. h k a (omega arith)))

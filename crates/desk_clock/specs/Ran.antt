@@ -19,14 +19,13 @@ use Rattle.read_fill.specs.Fill.{vcpuPut, mutexPut, openPut, taskPut}
 use Rattle.read_answer.specs.declared.PlanAnswer.{PlanAnswer}
 use Rattle.read_answer.specs.declared.PlanAnswer.the-variants.{Accepted, Refused}
 use Rattle.read_answer.specs.Into.{planAnswer}
-use Rattle.read_answer.specs.Judged.{isAccepted, linesLeft}
+use Rattle.read_answer.specs.Judged.{linesLeft}
 use Rattle.read_answer.specs.Ample.{Ample}
+use Rattle.records_read.specs.Lies.{refused-reads, left-lies}
 use Rattle.figures.specs.System.{system}
 use Rattle.clock_rules.specs.declared.RunAnswer.{RunAnswer}
 use Rattle.clock_rules.specs.declared.RunAnswer.the-variants.{NoRun}
 use Rattle.clock_rules.specs.Clock.{timingOf, runOf, isHorizon, runFor}
-use Rattle.desk.specs.Read.{recordIn, refusalIn, lineIn, accepted-is, refused-is, Lies, refused-reads}
-use Rattle.desk.specs.Told.{left-lies}
 
 -- of an accepted plan, 3 for a horizon outside 1 to 1,000,000
 abbrev pub runPlan : Plan → ℕ → RunAnswer
@@ -51,14 +50,14 @@ runOr (Accepted r) t h = runFor r t h
 runOr (Refused x l) t h = NoRun x
 
 -- as code finds out
-module _ (a : PlanAnswer) (t : Tables) (h : ℕ) {x : Bool} (f : x ≡ isAccepted a) where
-  pub ran-accepted : x ≡ true → {r : PlanRecord} → r ≡ recordIn a → {b : RunAnswer} → b ≡ runFor r t h → b ≡ runOr a t h
+module _ {a : PlanAnswer} (t : Tables) (h : ℕ) where
+  pub ran-accepted : {r : PlanRecord} → a ≡ Accepted r → {b : RunAnswer} → b ≡ runFor r t h → b ≡ runOr a t h
   unfolding runOr
-  ran-accepted e {r} k q = q ∙ ap (λ z. runOr z t h) (sym (accepted-is a (sym f ∙ e) ∙ ap Accepted (sym k)))
+  ran-accepted e q = q ∙ ap (λ z. runOr z t h) (sym e)
 
-  pub ran-refused : x ≡ false → {y : Refusal} → y ≡ refusalIn a → NoRun y ≡ runOr a t h
+  pub ran-refused : {x : Refusal} {l : ℕ} → a ≡ Refused x l → NoRun x ≡ runOr a t h
   unfolding runOr
-  ran-refused e {y} k = ap NoRun k ∙ ap (λ z. runOr z t h) (sym (refused-is a (sym f ∙ e)))
+  ran-refused e = ap (λ z. runOr z t h) (sym e)
 
 -- tables that pass the test for 9 run as their plan
 given-runs : (r : PlanRecord) (t : Tables) (h : ℕ) → isGiven r t ≡ true → runFor r t h ≡ runPlan (planIn r t) h

@@ -1,8 +1,8 @@
 -- `run_bytes` meets its contract.
 use borrow.Author.Needs.{needs}
-use Rattle.desk.specs.Ran.{ran-large, ran-read}
-use Rattle.desk.proofs.run_bytes.Statement.{statement}
-use Rattle.desk.proofs.run_bytes.Tie as tie
+use Rattle.desk_clock.specs.Ran.{ran-large, ran-read}
+use Rattle.desk_clock.proofs.run_bytes.Statement.{statement}
+use Rattle.desk_clock.proofs.run_bytes.Tie as tie
 
 returns : tie.Need-returns
 returns c = ran-large _ _ (c .before .too-large .ensures) (c .if1 .taken)

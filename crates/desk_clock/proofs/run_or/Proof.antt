@@ -1,0 +1,14 @@
+-- `run_or` meets its contract.
+use borrow.Author.Needs.{needs}
+use Rattle.desk_clock.specs.Ran.{ran-accepted, ran-refused}
+use Rattle.desk_clock.proofs.run_or.Statement.{statement}
+use Rattle.desk_clock.proofs.run_or.Tie as tie
+
+returns : tie.Need-returns
+returns c = ran-accepted _ _ (c .before .before .a .given .1) (c .run-of .ensures)
+
+returns-2 : tie.Need-returns-2
+returns-2 c = ran-refused _ _ (c .before .a2 .given .1)
+
+pub run-or-spec : {M : Type 1} → statement M
+run-or-spec = tie.close (tie.spec (λ c. search needs) (λ c κs. search needs) (λ c. search needs) returns returns-2)
