@@ -126,10 +126,6 @@ module _ {p : Policy} {o : OverrunChoice} {t x ls os : List ℕ} {ss : List Bool
   unfolding mustStop holdsGlobal
   going-marked-any os′ ws′ = going-marked
 
-  -- the lists have their lengths
-  pub going-shaped : Shaped (boardOf ls os ss hs ws)
-  going-shaped = g .running .shaped
-
   -- a VCPU with budget left is in the plan
   pub going-vcpu : (v : ℕ) → InV v → 1 < getD ls (v - 1) 0 → hasVcpu t v ≡ true
   unfolding timingIn factsIn
