@@ -21,7 +21,7 @@ use Rattle.board_rules.specs.declared.Event.the-variants.{Ask, Free, Use, Top, 
 use Rattle.board_rules.specs.declared.Next.{Next}
 use Rattle.board_rules.specs.declared.Next.the-variants.{Nobody, To}
 use Rattle.board_rules.specs.Board.{leftOf, overOf, isStopped, holdsGlobal, reserve, supply, settled, withLeft, withHolder, handedTo, grantedLocal, nextGlobal, nextLocal, fresh, mayHave, asked, freed, freedGlobal, freedLocal, used, topped, shown, answered, askFault, freeFault, useFault, topFault, showFault, step}
-use Rattle.board_rules.specs.Events.{answers, boardAfter, answersBy, boardBy}
+use Rattle.board_events.specs.Events.{answers, boardAfter, answersBy, boardBy}
 use Rattle.board_rules.specs.Change.{left-else, over-else}
 use Rattle.board_rules.specs.Marked.{fresh-left}
 use Rattle.board_keeps.specs.Fair.{Fair, InV}

@@ -23,7 +23,7 @@ use Rattle.board_rules.specs.declared.BoardAnswer.{BoardAnswer}
 use Rattle.board_rules.specs.declared.BoardAnswer.the-variants.{Refused}
 use Rattle.board_rules.specs.declared.Outcome.{Outcome}
 use Rattle.board_rules.specs.Board.{fresh, isAsleep, isBusy, holds, supply, mayHave, asked, freed, freedGlobal, freedLocal, used, topped, shown, answered, askFault, freeFault, useFault, topFault, showFault, step, stepOn}
-use Rattle.board_rules.specs.Events.{answersBy, answers, boardAfter}
+use Rattle.board_events.specs.Events.{answersBy, answers, boardAfter}
 use Rattle.board_keeps.specs.Fair.{Fair}
 use Rattle.board_keeps.specs.Runs.{run-step-on}
 

@@ -15,9 +15,9 @@ use Rattle.board_rules.specs.Facts.{Facts, factsOf}
 use Rattle.board_rules.specs.declared.BoardAnswer.{BoardAnswer}
 use Rattle.board_rules.specs.declared.BoardAnswer.the-variants.{Refused}
 use Rattle.board_rules.specs.Board.{leftOf, overOf, fresh}
-use Rattle.board_rules.specs.Events.{answers, boardAfter}
-use Rattle.board_rules.specs.Printed.{LineSays, AnEvent, NoEvent, saidBy, eventsIn, answersIn, answersTo, printed}
-use Rattle.board_rules.specs.PrintedLaws.{OneOrTwo, says-one-or-two, answers-long, answers-read-back}
+use Rattle.board_events.specs.Events.{answers, boardAfter}
+use Rattle.board_events.specs.Printed.{LineSays, AnEvent, NoEvent, saidBy, eventsIn, answersIn, answersTo, printed}
+use Rattle.board_events.specs.PrintedLaws.{OneOrTwo, says-one-or-two, answers-long, answers-read-back}
 use Rattle.board_keeps.specs.FairLaws.{fair}
 use Rattle.board_keeps.specs.NotNine.{NotNine, answers-not-nine}
 use Rattle.board_keeps.specs.Tested.{answersOn, fresh-answers-on}

@@ -12,7 +12,7 @@ use Rattle.board_rules.specs.Facts.{Facts}
 use Rattle.board_rules.specs.declared.Board.{Board}
 use Rattle.board_rules.specs.declared.Event.{Event}
 use Rattle.board_rules.specs.Board.{seat, leftOf, overOf, isStopped, holderOf, waitOf, fresh, step, good, stepOn}
-use Rattle.board_rules.specs.Events.{boardAfter, boardBy}
+use Rattle.board_events.specs.Events.{boardAfter, boardBy}
 use Rattle.board_rules.specs.Names.{seat-some}
 use Rattle.board_rules.specs.Marked.{fresh-left, fresh-marked}
 use Rattle.board_keeps.specs.Fair.{Fair, InV, InN, InM}

@@ -8,8 +8,8 @@ use Rattle.board_rules.specs.declared.Event.{Event}
 use Rattle.board_rules.specs.declared.Outcome.{Outcome}
 use Rattle.board_rules.specs.declared.BoardAnswer.{BoardAnswer}
 use Rattle.board_rules.specs.Board.{fresh, good, step, stepOn}
-use Rattle.board_rules.specs.Events.{answersBy, boardBy, answers, boardAfter}
-use Rattle.board_rules.specs.EventLaws.{SameRun, same-run}
+use Rattle.board_events.specs.Events.{answersBy, boardBy, answers, boardAfter}
+use Rattle.board_events.specs.EventLaws.{SameRun, same-run}
 use Rattle.board_keeps.specs.Fair.{Fair}
 use Rattle.board_keeps.specs.Shaped.{Shaped, fresh-shaped, step-shaped}
 use Rattle.board_keeps.specs.Keeps.{step-keeps}

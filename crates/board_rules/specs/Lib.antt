@@ -1,9 +1,5 @@
 pub mod Facts
 pub mod Board
-pub mod Events
-pub mod EventLaws
-pub mod Printed
-pub mod PrintedLaws
 pub mod View
 pub mod BoardLaws
 pub mod Names

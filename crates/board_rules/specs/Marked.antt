@@ -2,7 +2,6 @@
 use Prim.Native.Nat.{ℕ, suc, _-_, _<_}
 use mathlib.Core.Path.{_≡_, sym, ap, subst, _∙_}
 use mathlib.Core.List.{List}
-use mathlib.Core.Option.{Option, some, none}
 use mathlib.Core.Bool.{Bool, true, false, _&&_}
 use native.Mathlib.Omega.{arith}
 use borrow.Author.Tests.{eqb-true, ltb-true}
@@ -12,7 +11,6 @@ use Rattle.laws.specs.Choice.{if_then_else_, when}
 use Rattle.laws.specs.RangeLaws.{list-at}
 use Rattle.laws.specs.BoolLaws.{both-left, both-right, is-false}
 use Rattle.plan.specs.Limits.{maxV}
-use Rattle.plan.specs.Line.{Item, shape, written, itemOf}
 use Rattle.plan.specs.RuleLaws.{in-range}
 use Rattle.plan.specs.declared.Policy.{Policy}
 use Rattle.plan.specs.declared.OverrunChoice.{OverrunChoice}
@@ -24,7 +22,6 @@ use Rattle.board_rules.specs.Facts.{Facts}
 use Rattle.board_rules.specs.View.{factsIn}
 use Rattle.board_rules.specs.Names.{InV}
 use Rattle.board_rules.specs.Board.{Board, Event, Ask, Free, Use, Top, Show, Outcome, leftOf, mustStop, fresh, mayHave, asked, freed, freedGlobal, freedLocal, used, topped, shown, answered, askFault, freeFault, useFault, topFault, showFault, step}
-use Rattle.board_rules.specs.Events.{eventOf, onEvent, onItem, onLine}
 use Rattle.board_rules.specs.Settle.{Marked, due, settled-marked}
 
 -- A FRESH BOARD, where a VCPU of the plan has a budget
@@ -58,20 +55,6 @@ module _ (F : Facts) (b : Board) (k : Marked F b) where
   step-marked (Use v t) = marked-answered (useFault F b v t) (used F b v t) (settled-marked F _)
   step-marked (Top v) = marked-answered (topFault F v) (topped F b v) (settled-marked F _)
   step-marked (Show v n) = marked-answered (showFault F v n) (shown F b v n) k
-
-  -- and any line
-  event-marked : (ok : Bool) (x : Option Event) → Marked F (onEvent F b ok x .board)
-  event-marked ok none = k
-  event-marked true (some e) = step-marked e
-  event-marked false (some e) = k
-
-  item-marked : (x : Option Item) → Marked F (onItem F b x .board)
-  item-marked none = k
-  item-marked (some i) = event-marked (written (shape (i .kind)) (i .nums)) (eventOf (i .kind) (i .nums))
-
-  pub line-marked : (l : List ℕ) → Marked F (onLine F b l .board)
-  unfolding onLine
-  line-marked l = item-marked (itemOf l)
 
 -- WHAT A VIEW SAYS
 module _ (p : Policy) (o : OverrunChoice) (t : List ℕ) where

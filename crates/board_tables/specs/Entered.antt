@@ -15,7 +15,7 @@ use Rattle.board_rules.specs.declared.Event.{Event}
 use Rattle.board_rules.specs.declared.BoardAnswer.{BoardAnswer}
 use Rattle.board_rules.specs.declared.Outcome.{Outcome}
 use Rattle.board_rules.specs.Board.{fresh, refused, stepOn}
-use Rattle.board_rules.specs.Events.{answersBy, boardBy}
+use Rattle.board_events.specs.Events.{answersBy, boardBy}
 pub use Rattle.board_tables.specs.declared.FreshAnswer.{FreshAnswer}
 pub use Rattle.board_tables.specs.declared.FreshAnswer.the-variants.{Made, NoBoard}
 pub use Rattle.board_tables.specs.declared.FreshBoard.{FreshBoard}

@@ -18,8 +18,8 @@ use Rattle.board_rules.specs.declared.Board.{Board}
 use Rattle.board_rules.specs.declared.Event.{Event}
 use Rattle.board_rules.specs.declared.BoardAnswer.the-variants.{Refused}
 use Rattle.board_rules.specs.Board.{fresh, refused, good, step, stepOn}
-use Rattle.board_rules.specs.Events.{answers}
-use Rattle.board_rules.specs.EventLaws.{SameRun}
+use Rattle.board_events.specs.Events.{answers}
+use Rattle.board_events.specs.EventLaws.{SameRun}
 use Rattle.board_keeps.specs.Fair.{Fair}
 use Rattle.board_keeps.specs.FairLaws.{fair}
 use Rattle.board_keeps.specs.Shaped.{Shaped}

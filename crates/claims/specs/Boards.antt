@@ -14,7 +14,7 @@ use Rattle.board_rules.specs.declared.Event.{Event}
 use Rattle.board_rules.specs.declared.Event.the-variants.{Ask, Free}
 use Rattle.board_rules.specs.declared.Outcome.{Outcome}
 use Rattle.board_rules.specs.Board.{leftOf, overOf, step, good}
-use Rattle.board_rules.specs.Events.{boardAfter}
+use Rattle.board_events.specs.Events.{boardAfter}
 use Rattle.board_keeps.specs.Shaped.{Shaped}
 use Rattle.board_keeps.specs.Ledger.{ledger}
 use Rattle.board_keeps.specs.LedgerLaws.{ledger-balance}

@@ -31,10 +31,10 @@ use Rattle.board_rules.specs.declared.Event.{Event}
 use Rattle.board_rules.specs.declared.Event.the-variants.{Ask, Free, Use, Top, Show}
 use Rattle.board_rules.specs.declared.Outcome.{Outcome}
 use Rattle.board_rules.specs.declared.BoardAnswer.{BoardAnswer}
-use Rattle.board_rules.specs.Events.{boardText}
+use Rattle.board_events.specs.Events.{boardText}
 use Rattle.board_tables.specs.declared.FreshBoard.{FreshBoard}
 use Rattle.board_tables.specs.Entered.{freshFor, stepFor}
-use Rattle.desk_clock.specs.Ran.{runInto}
+use Rattle.desk_runs.specs.Ran.{runInto}
 use Rattle.exports_codes.specs.Exported.{exported, runExported, missedLeft}
 use Rattle.text_scan.proofs as text_scan
 use Rattle.given_test.proofs as given_test

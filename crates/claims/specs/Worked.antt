@@ -40,7 +40,7 @@ use Rattle.board_rules.specs.declared.BoardAnswer.the-variants.{Granted, Waits,
 use Rattle.figures.specs.Named.{hasTask}
 use Rattle.board_rules.specs.Facts.{factsOf, lists}
 use Rattle.board_rules.specs.Board.{fresh, holdsGlobal, localWaiter, isBusy, supply, mustStop, settled, passes, askFault, mayHave, asked, freeFault, waiterV, waiterN, nextGlobal, freedGlobal, localN, nextLocal, freedLocal, freed, useFault, used, topFault, topped, showFault, heldGlobal, heldLocal, raisedBy, taskPriority, vcpuPriority, step}
-use Rattle.board_rules.specs.Events.{answersBy, answers, eventOf, onLine, lineAnswers, answersText, boardText}
+use Rattle.board_events.specs.Events.{answersBy, answers, eventOf, onLine, lineAnswers, answersText, boardText}
 
 -- the plan worked through, as a record
 abbrev lowLock : Lock

@@ -7,7 +7,6 @@ use native.Mathlib.Omega.{arith}
 use borrow.Author.Tests.{leb-true}
 use lib.Dec.{leb}
 use lib.ListN.{length, length-append}
-use lib.Seq.{length-take-le}
 use Rattle.laws.specs.Choice.{if_then_else_}
 use Rattle.laws.specs.Bytes.{pieces, isNil}
 use Rattle.laws.specs.Decimal.{decimal}
@@ -16,7 +15,7 @@ use Rattle.plan.specs.Limits.{tab, lf}
 use Rattle.plan.specs.declared.Policy.{Policy}
 use Rattle.plan.specs.declared.OverrunChoice.{OverrunChoice}
 use Rattle.plan.specs.declared.Refusal.{Refusal}
-use Rattle.plan.specs.declared.Refusal.the-variants.{Shape, Number, Range}
+use Rattle.plan.specs.declared.Refusal.the-variants.{Shape, Range}
 use Rattle.plan.specs.Refusals.{numberOf}
 use Rattle.plan.specs.Line.{hasShape, numbers, written}
 use Rattle.plan.specs.Rules.{nth}
@@ -26,22 +25,16 @@ use Rattle.text_letters.specs.SizeLaws.{end-sized}
 use Rattle.listing.specs.Listing.{line, wRefused, refusedLine}
 use Rattle.listing_lines.specs.LineLaws.{line-joins}
 use Rattle.log_replies.specs.Short.{number-low}
-use Rattle.log_answers.specs.Small.{Small}
-use Rattle.board_rules.specs.View.{factsIn}
-use Rattle.clock_rules.specs.Clock.{maxHorizon, isHorizon, Run}
+use Rattle.clock_rules.specs.Clock.{maxHorizon, isHorizon}
 use Rattle.clock_rules.specs.Trace as trace
-use Rattle.clock_rules.specs.Trace.{horizonForm, horizonOf, horizonIn, oneLine, horizonFrom, tickText, endLine, missedLine, refusedAlone}
-use Rattle.clock_marks.specs.Marks.{runIn}
-use Rattle.clock_lines.specs.declared.HorizonAnswer.{HorizonAnswer}
-use Rattle.clock_lines.specs.declared.HorizonAnswer.the-variants.{Until, Refuse}
-use Rattle.clock_lines.specs.Horizon.{told}
-use Rattle.clock_lines.specs.Told.{toldAt, toldTo, told-length, RoomAt}
-use Rattle.clock_lines.specs.Bounds.{number-long, end-line-bound, missed-line-bound, refused-alone-bound}
+use Rattle.clock_rules.specs.Trace.{horizonForm, horizonOf, horizonIn, oneLine, horizonFrom, endLine, refusedAlone}
+use Rattle.clock_lines.specs.Bounds.{number-long, end-line-bound, refused-alone-bound}
+use Rattle.clock_horizons.specs.declared.HorizonAnswer.{HorizonAnswer}
+use Rattle.clock_horizons.specs.declared.HorizonAnswer.the-variants.{Until, Refuse}
+use Rattle.clock_horizons.specs.Horizon.{told}
 use Rattle.clock_nexts.specs.Nexts.{Nexts}
-use Rattle.clock_going.specs.Going.{timingBy, Going}
-use Rattle.clock_sizes.specs.Sizes.{tickRoom, going-room}
-use Rattle.clock_ticks.specs.Ticks.{Ticking}
-use Rattle.desk_rooms.specs.Whole.{Counted}
+use Rattle.clock_going.specs.Going.{Going}
+use Rattle.clock_sizes.specs.Sizes.{tickRoom}
 
 -- THE LINE OF A REFUSED PLAN
 rest-length : (f : List ℕ) (fs : List (List ℕ)) → length (rest (f ∷ fs)) ≡ 1 + (length f + length (rest fs))
@@ -85,34 +78,7 @@ fine s = fine-line (pieces lf s)
 pub until-to : (s : List ℕ) {a : HorizonAnswer} → told a ≡ horizonFrom s → (h : ℕ) → a ≡ Until h → h ≤ maxHorizon
 until-to s {a} e h q = subst Fine (sym e ∙ ap told q) (fine s)
 
--- A TICK'S TEXT stands in the buffer
-module _ {p : Policy} {o : OverrunChoice} {view x ls os : List ℕ} {ss : List Bool} {hs ws k : List ℕ} (g : Going p o view x ls os ss hs ws k) (s : Small (factsIn p o view))
-    (t : ℕ) (l : t ≤ maxHorizon) (a : List ℕ) (e : length a ≡ tickRoom) where
-  pub told-room : RoomAt true (tickText (timingBy p o view x) t (runIn ls os ss hs ws k)) a 0
-  told-room = going-room g s t l a e true
-
-  module _ {ls′ os′ : List ℕ} {ss′ : List Bool} {hs′ ws′ k′ y′ a′ : List ℕ} {w v n : ℕ}
-      (q : Ticking p o view x true t (runIn ls os ss hs ws k) a ls′ os′ ss′ hs′ ws′ k′ y′ a′ w v n) where
-    -- the buffer keeps its length
-    pub buffer-long : length a′ ≡ tickRoom
-    buffer-long = ap length (q .text) ∙ told-length true (tickText (timingBy p o view x) t (runIn ls os ss hs ws k)) a 0 told-room ∙ e
-
-    -- and the text does not go beyond it
-    pub text-within : w ≤ length a′
-    unfolding toldTo
-    text-within = omega (arith, q .size, told-room refl, buffer-long, e)
-
-    -- so many bytes stand there
-    pub text-counted : Counted w a′
-    text-counted = (text-within, sym (length-take-le w a′ text-within))
-
-    -- there is room for the last line
-    pub missed-room : length (missedLine t v n) ≤ length a′
-    missed-room =
-        let i = q .passing .v-to in
-        let j = q .passing .n-to in
-        omega (arith, missed-line-bound t v n (omega arith) (omega arith) (omega arith), buffer-long)
-
+-- THE LAST LINES
 pub end-room : (h : ℕ) → h ≤ maxHorizon → (a : List ℕ) → length a ≡ tickRoom → length (endLine h) ≤ length a
 end-room h l a e = omega (arith, end-line-bound h (omega arith), e)
 

@@ -20,7 +20,7 @@ use Rattle.board_rules.specs.declared.Next.the-variants.{Nobody, To}
 use Rattle.board_rules.specs.declared.Outcome.{Outcome}
 use Rattle.board_rules.specs.declared.BoardAnswer.the-variants.{Freed}
 use Rattle.board_rules.specs.Board.{seat, leftOf, overOf, isStopped, holderOf, waitOf, holds, settled, withHolder, withWait, mayHave, handedTo, grantedLocal, nextGlobal, nextLocal, shown, answered, askFault, freeFault, showFault, step, good}
-use Rattle.board_rules.specs.Events.{answersBy, answers, boardBy, boardAfter}
+use Rattle.board_events.specs.Events.{answersBy, answers, boardBy, boardAfter}
 use Rattle.board_rules.specs.Names.{seat-one, seat-some}
 use Rattle.board_rules.specs.Change.{holder-else, wait-else}
 use Rattle.board_keeps.specs.Fair.{Fair, InV, InN, InM, task-v, sheet-v, sheet-n, sheet-m}

@@ -9,7 +9,7 @@ use Rattle.laws.specs.Sums.{Each}
 use Rattle.laws.specs.SumLaws.{each-append, each-map}
 use Rattle.board_rules.specs.declared.Event.{Event}
 use Rattle.board_rules.specs.declared.Next.{Next}
-use Rattle.board_rules.specs.Events.{boardAfter}
+use Rattle.board_events.specs.Events.{boardAfter}
 use Rattle.board_keeps.specs.Fair.{InV}
 use Rattle.board_keeps.specs.Marks.{ownVcpu}
 use Rattle.clock_rules.specs.Clock.{Timing, Run, isOn, asksAt, turn, afterTurn}

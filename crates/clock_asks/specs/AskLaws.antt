@@ -4,7 +4,6 @@ use mathlib.Core.Path.{_≡_, refl, sym, ap, subst, _∙_}
 use mathlib.Core.List.{List}
 use mathlib.Core.Bool.{Bool, true, false, false≢true}
 use native.Mathlib.Omega.{arith}
-use lib.Dec.{eqb}
 use Rattle.laws.specs.Choice.{if_then_else_}
 use Rattle.laws.specs.BoolLaws.{clash}
 use Rattle.plan.specs.declared.Policy.{Policy}
@@ -21,8 +20,8 @@ use Rattle.board_rules.specs.declared.Next.the-variants.{Nobody, To}
 use Rattle.board_rules.specs.declared.BoardAnswer.{BoardAnswer}
 use Rattle.board_rules.specs.declared.BoardAnswer.the-variants.{Granted, Waits, Freed, Left, Shows, Refused}
 use Rattle.board_rules.specs.declared.Outcome.{Outcome}
-use Rattle.board_rules.specs.Board.{holderOf, withHolder, withWait, complete, mayHave, asked, answered, askFault, step}
-use Rattle.board_rules.specs.Events.{boardBy}
+use Rattle.board_rules.specs.Board.{withHolder, withWait, complete, mayHave, asked, answered, askFault, step}
+use Rattle.board_events.specs.Events.{boardBy}
 use Rattle.board_rules.specs.Lent.{outcomeOf}
 use Rattle.board_keeps.specs.Fair.{InV, InN}
 use Rattle.board_keeps.specs.Good.{good-marked}
@@ -41,7 +40,7 @@ use Rattle.clock_mirrors.specs.Writes.{seat-list}
 use Rattle.clock_mirrors.specs.Asks.{PutWhere, wait-mirrors, grant-mirrors}
 use Rattle.clock_lines.specs.Told.{toldAt, toldTo, RoomAt}
 use Rattle.clock_going.specs.Going.{timingBy, Going}
-use Rattle.clock_asks.specs.Passing.{mayBy, passes-kept}
+use Rattle.clock_passes.specs.Passing.{mayBy, may-kept}
 use Rattle.clock_asks.specs.Asked.{Asker, Took, took-global, took-local, Kept, kept-waits, kept-took, MayAsk, AskKept, AskMade}
 
 -- WHAT AN ANSWER IS
@@ -118,10 +117,9 @@ module _ {p : Policy} {c : OverrunChoice} {t x ls os : List ℕ} {ss : List Bool
 
   -- what is kept says whether the task may have m
   is-may : mayBy t hs k v n m ≡ mayHave (factsIn p c t) (boardOf ls os ss hs ws) v n m
-  unfolding timingIn factsIn mayHave
+  unfolding timingIn
   is-may =
-      ap (λ (y : Bool). if isGlobal t m then eqb (holderOf (boardOf ls os ss hs ws) m) 0 else y)
-      (passes-kept (g .mirrors) (g .paced .fair) (g .running .is-good) v n (a .chosen .v-in) (ask-clear (timingBy p c t x .facts) (boardOf ls os ss hs ws) v n m is-clear .no-hold))
+      may-kept p c t (g .mirrors) (g .paced .fair) (g .running .is-good) v n m (a .chosen .v-in) (ask-clear (timingBy p c t x .facts) (boardOf ls os ss hs ws) v n m is-clear .no-hold)
 
   -- the task may ask
   pub may-ask : MayAsk p c t ls os ss hs ws k v n m

@@ -24,7 +24,7 @@ use Rattle.clock_steps.specs.Picked.{Chosen}
 use Rattle.clock_lines.specs.Told.{toldAt, toldTo}
 use Rattle.clock_going.specs.Going.{timingBy, Going, Made}
 use Rattle.clock_asks.specs.AskCases.{dueTo}
-use Rattle.clock_asks.specs.Passing.{mayBy}
+use Rattle.clock_passes.specs.Passing.{mayBy}
 
 -- A PICK: core c picks (v, n), nobody where v is 0, and (v, n) is to ask for m, for nothing where m is 0
 pub record PickIs (T : Timing) (c : ℕ) (b : Board) (d : List ℕ) (v n m : ℕ) : Type 0 where

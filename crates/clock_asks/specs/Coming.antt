@@ -9,7 +9,7 @@ use Rattle.board_rules.specs.declared.Board.{Board}
 use Rattle.board_rules.specs.declared.Event.{Event}
 use Rattle.board_rules.specs.declared.Next.{Next}
 use Rattle.board_rules.specs.Board.{step}
-use Rattle.board_rules.specs.Events.{boardBy, boardAfter}
+use Rattle.board_events.specs.Events.{boardBy, boardAfter}
 use Rattle.clock_rules.specs.Clock.{Asks, noAsk, after}
 use Rattle.clock_rules.specs.Trace.{eventLine, linesAt}
 use Rattle.clock_lines.specs.Told.{toldAt, toldTo, RoomAt, told-none, told-to-none, told-two, told-to-two, room-first, room-rest}

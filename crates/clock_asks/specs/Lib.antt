@@ -1,5 +1,4 @@
 pub mod AskCases
-pub mod Passing
 pub mod Coming
 pub mod Asked
 pub mod Chosen

@@ -11,10 +11,9 @@ ghost use Rattle.board_rules.specs.View.{factsIn};
 ghost use Rattle.board_rules.specs.Board.{step};
 ghost use Rattle.clock_rules.specs.Clock.{isWait, asksAt};
 ghost use Rattle.clock_rules.specs.Trace.{eventLine, linesAt};
-ghost use Rattle.clock_marks.specs.Marks.{boardOf, runIn, doneIn, holdersCell, Sized};
+ghost use Rattle.clock_marks.specs.Marks.{boardOf, runIn, doneIn, Sized};
 ghost use Rattle.clock_lines.specs.Told.{RoomAt};
 ghost use Rattle.clock_going.specs.Going.{timingBy, Going};
-ghost use Rattle.clock_asks.specs.Passing.{clearsBy, passesIn, mayBy};
 ghost use Rattle.clock_asks.specs.Asked.{PickIs, KnownPick, Took, Kept, MayAsk, AskKept, Asked};
 
 // Who uses the tick, nobody where v and n are 0; and where the text goes on.
@@ -109,43 +108,6 @@ fn pick(
     Choice { v, n, m }
 }
 
-// The mutex m of a task of the same VCPU does not bar task n: 33 is a global one.
-fn clears(view: &[u64], m: u64, n: u64) -> bool
-    ensures { λ r. ⌜ r ≡ clearsBy (now (view .entry)) n m ⌝ }
-{
-    if m == 33 {
-        return true;
-    }
-    board_seats::ceiling(view, m) < n
-}
-
-// n is above the ceiling of every local mutex that a task of v holds: only those that hold one are walked over.
-fn passes(view: &[u64], marks: &[u64], v: u64, n: u64) -> bool
-    requires { ⌜ Sized (now marks) × (0 < v) × (v ≤ 16) ⌝ }
-    ensures { λ r. ⌜ r ≡ passesIn (now (view .entry)) (now (marks .entry)) v n (holdersCell (now (marks .entry)) v) ⌝ }
-{
-    let mut rest = board_seats::at(marks, 19 + v);
-    while rest != 0 {
-        let x = clock_sets::lowest_in(rest);
-        if !clears(view, clock_puts::held(marks, v, x), n) {
-            return false;
-        }
-        rest = clock_sets::without(rest, x);
-    }
-    true
-}
-
-// A global mutex is free; for a local one task (v, n), which holds none, passes the test.
-fn may_have(view: &[u64], holder: &[u16], marks: &[u64], v: u64, n: u64, m: u64) -> bool
-    requires { ⌜ Sized (now marks) × (0 < v) × (v ≤ 16) ⌝ }
-    ensures { λ r. ⌜ r ≡ mayBy (now (view .entry)) (now (holder .entry)) (now (marks .entry)) v n m ⌝ }
-{
-    if board_seats::is_global(view, m) {
-        return board_seats::holder(holder, m) == 0;
-    }
-    passes(view, marks, v, n)
-}
-
 // Task (v, n) asks for m: the ask is made, told and kept.
 fn ask(
     on: bool,
@@ -169,7 +131,7 @@ fn ask(
     requires { ⌜ RoomAt on (eventLine t (Event.Ask v n m) (step (factsIn policy choice (now view)) (boardOf (now left) (now over) (now stopped) (now holder) (now waits)) (Event.Ask v n m) .answer)) (now out) at ⌝ }
     ensures { λ r. ⌜ AskKept policy choice (now (view .entry)) (now (left .entry)) (now (over .entry)) (now (stopped .entry)) on t v n m (now (holder .entry)) (now (waits .entry)) (now (marks .entry)) (now (out .entry)) at (now (holder .exit)) (now (waits .exit)) (now (marks .exit)) (now (out .exit)) (r .waits) (r .at) ⌝ }
 {
-    let may = may_have(view, holder, marks, v, n, m);
+    let may = clock_passes::may_have(view, holder, marks, v, n, m);
     let a = Board::ask_sure(
         policy,
         choice,

@@ -9,7 +9,7 @@ use Rattle.plan.specs.declared.OverrunChoice.{OverrunChoice}
 use Rattle.board_rules.specs.Facts.{Facts}
 use Rattle.board_rules.specs.View.{factsIn}
 use Rattle.board_rules.specs.declared.Event.{Event}
-use Rattle.board_rules.specs.Events.{boardAfter}
+use Rattle.board_events.specs.Events.{boardAfter}
 use Rattle.clock_rules.specs.Clock.{Timing, Run}
 use Rattle.clock_rules.specs.Trace.{linesAt}
 use Rattle.clock_times.specs.Times.{timingIn, Paired, Ordered}

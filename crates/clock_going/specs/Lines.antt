@@ -6,7 +6,7 @@ use Rattle.board_rules.specs.Facts.{Facts}
 use Rattle.board_rules.specs.declared.Board.{Board}
 use Rattle.board_rules.specs.declared.Event.{Event}
 use Rattle.board_rules.specs.Board.{step}
-use Rattle.board_rules.specs.Events.{boardAfter, boardBy}
+use Rattle.board_events.specs.Events.{boardAfter, boardBy}
 use Rattle.clock_rules.specs.Trace.{eventLine, linesAt}
 
 -- the lines of two lists of events

@@ -19,7 +19,7 @@ use Rattle.board_rules.specs.declared.Event.the-variants.{Ask, Free, Use, Top, 
 use Rattle.board_rules.specs.declared.Next.the-variants.{Nobody, To}
 use Rattle.board_rules.specs.declared.BoardAnswer.{BoardAnswer}
 use Rattle.board_rules.specs.declared.BoardAnswer.the-variants.{Granted, Waits, Freed, Left, Shows, Refused}
-use Rattle.board_rules.specs.Events.{wFreed, wLeft, answerFields}
+use Rattle.board_events.specs.Events.{wFreed, wLeft, answerFields}
 use Rattle.log_replies.specs.Short.{one-long, number-low, plain-long, refused-short}
 use Rattle.clock_rules.specs.Trace.{wMissed, eventFields, eventLine, endLine, missedLine, refusedAlone}
 use Rattle.clock_lines.specs.EventLaws.{eventTabs, fields-join, answer-joins, ask-tabs, free-tabs, use-tabs, top-tabs, show-tabs}

@@ -14,7 +14,7 @@ use Rattle.board_rules.specs.declared.Event.{Event}
 use Rattle.board_rules.specs.declared.Event.the-variants.{Ask, Free, Use, Top, Show}
 use Rattle.board_rules.specs.declared.BoardAnswer.{BoardAnswer}
 use Rattle.board_rules.specs.declared.BoardAnswer.the-variants.{Granted, Waits, Freed, Left, Shows, Refused}
-use Rattle.board_rules.specs.Events.{answerFields}
+use Rattle.board_events.specs.Events.{answerFields}
 use Rattle.clock_rules.specs.Trace.{eventFields, eventLine}
 
 -- fields, each after a tab

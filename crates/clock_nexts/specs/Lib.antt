@@ -3,6 +3,5 @@ pub mod LeastLaws
 pub mod WriteLaws
 pub mod PartLaws
 pub mod ScanLaws
-pub mod DueLaws
 pub mod Gather
 pub mod SetLaws

@@ -1,4 +1,4 @@
--- What holds when a tick's tops are made, and when its releases are.
+-- What holds when a tick's releases are made, and when it is open.
 use Prim.Native.Nat.{ℕ, _+_, _-_, _*_, _/_, _%_, _<_, _≤_}
 use mathlib.Core.Path.{_≡_, refl, sym, ap, subst, subst₂, _∙_}
 use mathlib.Core.List.{List}
@@ -18,40 +18,28 @@ use Rattle.board_rules.specs.Facts.{Facts}
 use Rattle.board_rules.specs.View.{factsIn}
 use Rattle.board_rules.specs.declared.Board.{Board}
 use Rattle.board_rules.specs.declared.Next.the-variants.{Nobody}
-use Rattle.board_rules.specs.Board.{waitOf, nextOf, good}
-use Rattle.board_rules.specs.Events.{boardAfter}
-use Rattle.board_keeps.specs.Fair.{Fair, InV, InN}
+use Rattle.board_rules.specs.Board.{waitOf, nextOf}
+use Rattle.board_events.specs.Events.{boardAfter}
+use Rattle.board_keeps.specs.Fair.{InV, InN}
 use Rattle.clock_rules.specs.Clock.{Timing, doneOf, isUnfinished, isReleased, tops, missed, released, opened}
 use Rattle.clock_rules.specs.Trace.{linesAt}
 use Rattle.clock_times.specs.Times.{timingIn}
 use Rattle.clock_marks.specs.Marks.{atDone, boardOf, runIn, doneCell, doneIn, Sized, Mirrors}
-use Rattle.clock_lines.specs.Told.{toldAt, toldTo, RoomAt}
+use Rattle.clock_lines.specs.Told.{toldAt, toldTo}
 use Rattle.clock_steps.specs.Done.{by-seat, seats-long}
 use Rattle.clock_steps.specs.Running.{Running, opened-running}
 use Rattle.clock_steps.specs.Missed.{none-missed}
-use Rattle.clock_nexts.specs.Nexts.{atTops, atJobs, placeOf, isDue, missedV, missedN, Nexts, Jobs, TopsRenewed, JobsRenewed}
-use Rattle.clock_nexts.specs.WriteLaws.{tops-later, jobs-later}
-use Rattle.clock_nexts.specs.PartLaws.{nexts-tops, nexts-jobs, nexts-both, renewed-jobs, renewed-tops}
-use Rattle.clock_nexts.specs.DueLaws.{tops-due, release-due, missed-first, missed-nobody, missed-some, no-job-due, no-job-misses, no-tops-due}
+use Rattle.clock_nexts.specs.Nexts.{atJobs, placeOf, isDue, missedV, missedN, Nexts, Jobs, JobsRenewed}
+use Rattle.clock_nexts.specs.WriteLaws.{jobs-later}
+use Rattle.clock_nexts.specs.PartLaws.{nexts-both, renewed-tops}
+use Rattle.clock_misses.specs.DueLaws.{release-due, missed-first, missed-nobody, missed-some, no-job-due, no-job-misses}
 use Rattle.clock_mirrors.specs.Writes.{seat-list, done-kept}
 use Rattle.clock_mirrors.specs.Works.{ended-waits-none}
 use Rattle.clock_going.specs.Going.{timingBy, Going}
-use Rattle.clock_opens.specs.Opens.{topsTo, Topped, TopsMade, MissedJob, Idle, Releases, JobsMade, Jobbed, Opens, Opening}
-use Rattle.clock_opens.specs.TopLaws.{topped-quiet}
+use Rattle.clock_tops.specs.Topping.{TopsMade}
+use Rattle.clock_tops.specs.MadeLaws.{tops-here}
+use Rattle.clock_opens.specs.Opens.{MissedJob, Idle, Releases, JobsMade, Jobbed, Opens, Opening}
 use Rattle.clock_opens.specs.ReleaseLaws.{releases-none}
-
--- the facts of a timing
-pub fair-of : (F : Facts) (x : List ℕ) → Fair (timingIn F x .facts) → Fair F
-unfolding timingIn
-fair-of F x f = f
-
-pub good-of : (F : Facts) (x : List ℕ) (b : Board) → good (timingIn F x .facts) b ≡ true → good F b ≡ true
-unfolding timingIn
-good-of F x b g = g
-
-pub choice-of : (p : Policy) (o : OverrunChoice) (view : List ℕ) → o ≡ factsIn p o view .choice
-unfolding factsIn
-choice-of p o view = refl
 
 module _ {p : Policy} {o : OverrunChoice} {view x : List ℕ} {ls os : List ℕ} {ss : List Bool} {hs ws k y : List ℕ} {t : ℕ} (g : Going p o view x ls os ss hs ws k) (n : Nexts x y t) (early : t ≤ 1000000) where
   abbrev F : Facts
@@ -63,35 +51,6 @@ module _ {p : Policy} {o : OverrunChoice} {view x : List ℕ} {ls os : List ℕ}
   abbrev b : Board
   b = boardOf ls os ss hs ws
 
-  -- the tops, by the list
-  pub tops-here : tops T t ≡ topsTo y t maxV
-  tops-here = tops-due p o (g .paired) (omega arith) (nexts-tops n)
-
-  -- room for their lines
-  pub tops-room : (on : Bool) (a : List ℕ) (at : ℕ) → RoomAt on (linesAt F t b (tops T t)) a at → RoomAt on (linesAt F t b (topsTo y t maxV)) a at
-  tops-room on a at r = subst (λ es. RoomAt on (linesAt F t b es) a at) tops-here r
-
-  -- where none is due
-  pub tops-quiet : (on : Bool) (a : List ℕ) (at : ℕ) → (getD y atTops 0 ≡ t → ⊥) → TopsMade F x on t b k y a at b k y a at
-  tops-quiet on a at ne =
-      let f = n .tops-from in
-      let l : t < getD y atTops 0 = omega (arith, ne) in
-      record {
-        topped = topped-quiet F x on t b k y a at (g .mirrors) (no-tops-due (nexts-tops n) l);
-        long = n .long;
-        nexts = tops-later (t + 1) (omega arith) (omega arith) (nexts-tops n);
-        jobs = nexts-jobs n;
-      }
-
-  -- and where some are
-  pub tops-made : {on : Bool} {a : List ℕ} {at : ℕ} {b′ : Board} {k₁ a′ y₁ : List ℕ} {w : ℕ} → Topped F x on t b k y a at maxV b′ k₁ a′ w → TopsRenewed x y y₁ t → TopsMade F x on t b k y a at b′ k₁ y₁ a′ w
-  tops-made h r = record {
-    topped = h;
-    long = r .length-same ∙ n .long;
-    nexts = r .tops;
-    jobs = renewed-jobs r (nexts-jobs n);
-  }
-
   -- when the tops are made
   module _ {on : Bool} {a : List ℕ} {at : ℕ} {b′ : Board} {k₁ y₁ a′ : List ℕ} {w : ℕ} (h : TopsMade F x on t b k y a at b′ k₁ y₁ a′ w) where
     -- the ticks done are as they were
@@ -102,10 +61,10 @@ module _ {p : Policy} {o : OverrunChoice} {view x : List ℕ} {ls os : List ℕ}
     topped-done = done-kept k k₁ topped-cell
 
     topped-text : a′ ≡ toldAt on (linesAt F t b (tops T t)) a at
-    topped-text = h .topped .text ∙ ap (λ es. toldAt on (linesAt F t b es) a at) (sym tops-here)
+    topped-text = h .topped .text ∙ ap (λ es. toldAt on (linesAt F t b es) a at) (sym (tops-here g n early))
 
     topped-size : w ≡ toldTo on (linesAt F t b (tops T t)) at
-    topped-size = h .topped .size ∙ ap (λ es. toldTo on (linesAt F t b es) at) (sym tops-here)
+    topped-size = h .topped .size ∙ ap (λ es. toldTo on (linesAt F t b es) at) (sym (tops-here g n early))
 
     -- the first miss
     topped-missed : {v m : ℕ} → MissedJob x k₁ y₁ t v m → missed T t (doneIn k) ≡ nextOf v m
@@ -159,7 +118,7 @@ module _ {p : Policy} {o : OverrunChoice} {view x : List ℕ} {ls os : List ℕ}
 
         open-board : b′ ≡ boardAfter (T .facts) b (tops T t)
         unfolding timingIn
-        open-board = h .topped .board ∙ ap (boardAfter F b) (sym tops-here)
+        open-board = h .topped .board ∙ ap (boardAfter F b) (sym (tops-here g n early))
 
         open-running : Running T b′ (doneIn k₂)
         open-running = subst₂ (λ c d. Running T c d) (sym open-board) (sym open-done) (opened-running (g .paced) t (g .running) none)

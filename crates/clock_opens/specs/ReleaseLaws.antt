@@ -19,7 +19,7 @@ use Rattle.clock_times.specs.Times.{atLengths, lengthsCell, timingIn}
 use Rattle.clock_marks.specs.Marks.{atDone, atPlace, Sized}
 use Rattle.clock_marks.specs.Changes.{PutReady}
 use Rattle.clock_nexts.specs.Nexts.{places, placeOf, rowAt, isDue, Row}
-use Rattle.clock_nexts.specs.DueLaws.{no-row-due}
+use Rattle.clock_misses.specs.DueLaws.{no-row-due}
 use Rattle.clock_puts.specs.SizedLaws.{sized-done, sized-place, sized-put-ready}
 use Rattle.clock_mirrors.specs.Writes.{job-put}
 use Rattle.clock_mirrors.specs.Works.{release-mirrors}

@@ -16,7 +16,7 @@ use Rattle.board_rules.specs.declared.Board.{Board}
 use Rattle.board_rules.specs.declared.Event.{Event}
 use Rattle.board_rules.specs.Board.{leftOf}
 use Rattle.board_rules.specs.Names.{seat-one}
-use Rattle.board_rules.specs.Events.{boardBy, boardAfter}
+use Rattle.board_events.specs.Events.{boardBy, boardAfter}
 use Rattle.board_keeps.specs.Fair.{InV, InN}
 use Rattle.clock_rules.specs.declared.RunAnswer.the-variants.{Missed}
 use Rattle.clock_rules.specs.Clock.{Timing, Run, doneOf, isOn, afterTurn, cores, afterTurns, opened, tick, unlessMissed, runFrom}

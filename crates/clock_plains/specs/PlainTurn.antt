@@ -24,7 +24,7 @@ use Rattle.board_rules.specs.declared.Next.the-variants.{Nobody, To}
 use Rattle.board_rules.specs.declared.Outcome.{Outcome}
 use Rattle.board_rules.specs.Board.{seat, leftOf, overOf, isStopped, underP, mustStop, withLeft, settled, used, step, good}
 use Rattle.board_rules.specs.Lent.{boardOf}
-use Rattle.board_rules.specs.Events.{boardBy, boardAfter}
+use Rattle.board_events.specs.Events.{boardBy, boardAfter}
 use Rattle.board_rules.specs.Settle.{due, mark-stays}
 use Rattle.board_rules.specs.SettleEvents.{keep-settles, use-keeps}
 use Rattle.board_keeps.specs.Fair.{Fair, InV}

@@ -9,7 +9,7 @@ use lib.ListN.{length, set}
 use Rattle.laws.specs.Choice.{if_then_else_}
 use Rattle.board_rules.specs.declared.Board.{Board}
 use Rattle.board_rules.specs.Board.{seat, leftOf, holds, nextOf}
-use Rattle.board_rules.specs.Events.{answers}
+use Rattle.board_events.specs.Events.{answers}
 use Rattle.board_keeps.specs.Fair.{InV, InN}
 use Rattle.clock_rules.specs.Clock.{Timing, Run, doneOf, picked, idles, turn}
 use Rattle.clock_steps.specs.Hands.{anyHandsOn}

@@ -26,7 +26,7 @@ use Rattle.board_rules.specs.declared.Next.the-variants.{Nobody, To}
 use Rattle.board_rules.specs.declared.BoardAnswer.{BoardAnswer}
 use Rattle.board_rules.specs.declared.BoardAnswer.the-variants.{Granted, Waits, Freed, Left, Shows, Refused}
 use Rattle.board_rules.specs.Board.{seat, leftOf, waitOf, holds, isAsleep, underP, fresh, step, nextOf, taskPriority, vcpuPriority}
-use Rattle.board_rules.specs.Events.{answers, boardAfter}
+use Rattle.board_events.specs.Events.{answers, boardAfter}
 pub use Rattle.clock_rules.specs.declared.RunAnswer.{RunAnswer}
 pub use Rattle.clock_rules.specs.declared.RunAnswer.the-variants.{Ended, Missed, NoRun}
 

@@ -22,7 +22,7 @@ use Rattle.board_rules.specs.declared.Event.{Event}
 use Rattle.board_rules.specs.declared.Event.the-variants.{Ask, Free, Use, Top, Show}
 use Rattle.board_rules.specs.declared.BoardAnswer.{BoardAnswer}
 use Rattle.board_rules.specs.Board.{step}
-use Rattle.board_rules.specs.Events.{answerFields}
+use Rattle.board_events.specs.Events.{answerFields}
 use Rattle.clock_rules.specs.Clock.{Timing, Run, timingOf, atFirst, missed, tick, eventsAt, unlessMissed, isHorizon}
 
 -- the words, in bytes

@@ -21,7 +21,7 @@ use Rattle.board_rules.specs.declared.Next.{Next}
 use Rattle.board_rules.specs.declared.Next.the-variants.{Nobody, To}
 use Rattle.board_rules.specs.Board as board
 use Rattle.board_rules.specs.Board.{seat, leftOf, underP, settled, mayHave, askFault, answered, step}
-use Rattle.board_rules.specs.Events.{boardAfter, boardBy}
+use Rattle.board_events.specs.Events.{boardAfter, boardBy}
 use Rattle.clock_rules.specs.Clock.{Timing, Run, doneOf, isUnfinished, isReady, hasReady, isOn, picked, dueOf, Asks, isWait, mostPicks, asksAt, idles, idleUses, work, asked, turn}
 use Rattle.clock_steps.specs.Picked.{nextV, nextN, nobody-picks, Chosen, Picked, nobody, somebody, picks}
 use Rattle.clock_steps.specs.Asking.{Asking, spent, none-picked, none-due, has-asked, has-waited, asking, LastPick, is-due}

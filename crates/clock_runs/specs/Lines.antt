@@ -12,8 +12,8 @@ use Rattle.board_rules.specs.declared.Board.{Board}
 use Rattle.board_rules.specs.declared.Event.{Event}
 use Rattle.board_rules.specs.declared.BoardAnswer.{BoardAnswer}
 use Rattle.board_rules.specs.Board.{fresh, step}
-use Rattle.board_rules.specs.Events.{answers, answersBy, boardAfter}
-use Rattle.board_rules.specs.PrintedLaws.{answers-long}
+use Rattle.board_events.specs.Events.{answers, answersBy, boardAfter}
+use Rattle.board_events.specs.PrintedLaws.{answers-long}
 use Rattle.clock_rules.specs.Clock.{Timing, traceOf, traceAnswers, runOf}
 use Rattle.clock_rules.specs.Trace.{eventLine, linesAt, tickText, runText}
 use Rattle.clock_runs.specs.Runs.{answers-append, stateAt, Unmissed, unmissed-before, state-board}

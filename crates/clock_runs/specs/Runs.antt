@@ -13,7 +13,7 @@ use Rattle.board_rules.specs.declared.Event.{Event}
 use Rattle.board_rules.specs.declared.Next.{Next}
 use Rattle.board_rules.specs.declared.Next.the-variants.{Nobody, To}
 use Rattle.board_rules.specs.Board.{fresh, step, good}
-use Rattle.board_rules.specs.Events.{answers, boardAfter, answersBy, boardBy}
+use Rattle.board_events.specs.Events.{answers, boardAfter, answersBy, boardBy}
 use Rattle.board_keeps.specs.Fair.{Fair}
 use Rattle.board_keeps.specs.Shaped.{Shaped, fresh-shaped}
 use Rattle.board_keeps.specs.Runs.{run-good}

@@ -29,8 +29,9 @@ use Rattle.clock_paced.specs.Paced.{Paced}
 use Rattle.clock_steps.specs.Running.{Running, first-running}
 use Rattle.clock_mirrors.specs.Firsts.{First, first-mirrors, first-done}
 use Rattle.clock_going.specs.Going.{timingBy, Going}
-use Rattle.clock_starts.specs.Starts.{firstNexts, DoneTo, SuppliedTo, Started}
-use Rattle.clock_starts.specs.NextLaws.{first-nexts}
+use Rattle.clock_firsts.specs.Firsts.{firstNexts, DoneTo, SuppliedTo}
+use Rattle.clock_firsts.specs.NextLaws.{first-nexts}
+use Rattle.clock_starts.specs.Starts.{Started}
 
 -- a number under a test that holds
 when-in : (r : Bool) (y : ℕ) → r ≡ true → when r y ≡ y

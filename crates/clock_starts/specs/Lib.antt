@@ -1,4 +1,2 @@
 pub mod Starts
-pub mod StartLaws
-pub mod NextLaws
 pub mod FirstLaws

@@ -15,7 +15,7 @@ use Rattle.board_rules.specs.declared.Outcome.{Outcome}
 use Rattle.board_rules.specs.declared.BoardAnswer.{BoardAnswer}
 use Rattle.board_rules.specs.declared.BoardAnswer.the-variants.{Granted, Waits, Freed, Left, Shows, Refused}
 use Rattle.board_rules.specs.Board.{seat, holderOf, waitOf, settled, withHolder, mayHave, askFault, complete, step}
-use Rattle.board_rules.specs.Events.{boardBy, boardAfter}
+use Rattle.board_events.specs.Events.{boardBy, boardAfter}
 use Rattle.board_keeps.specs.Fair.{sheet-m}
 use Rattle.board_keeps.specs.Shaped.{step-shaped}
 use Rattle.board_keeps.specs.Change.{holder-new}

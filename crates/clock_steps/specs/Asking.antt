@@ -13,7 +13,7 @@ use Rattle.board_rules.specs.declared.Event.the-variants.{Ask}
 use Rattle.board_rules.specs.declared.Next.{Next}
 use Rattle.board_rules.specs.declared.Next.the-variants.{Nobody, To}
 use Rattle.board_rules.specs.Board.{seat, holderOf, holds, step}
-use Rattle.board_rules.specs.Events.{boardBy, boardAfter}
+use Rattle.board_events.specs.Events.{boardBy, boardAfter}
 use Rattle.clock_rules.specs.Clock.{Timing, doneOf, picked, dueOf, Asks, isWait, noAsk, after, asksOf, asks}
 use Rattle.clock_steps.specs.InStep.{Served}
 use Rattle.clock_steps.specs.Picked.{nextV, nextN, nobody-picks, Chosen, Picked, nobody, somebody, picks}

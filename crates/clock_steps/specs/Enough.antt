@@ -19,7 +19,7 @@ use Rattle.board_rules.specs.declared.Next.{Next}
 use Rattle.board_rules.specs.declared.Next.the-variants.{Nobody, To}
 use Rattle.board_rules.specs.declared.Outcome.{Outcome}
 use Rattle.board_rules.specs.Board.{seat, waitOf, settled, withWait, mayHave, asked, answered, askFault, step}
-use Rattle.board_rules.specs.Events.{boardBy, boardAfter}
+use Rattle.board_events.specs.Events.{boardBy, boardAfter}
 use Rattle.board_keeps.specs.Fair.{InV, InN}
 use Rattle.board_keeps.specs.Shaped.{Shaped, step-shaped}
 use Rattle.board_keeps.specs.Change.{wait-new}

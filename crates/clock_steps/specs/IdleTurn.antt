@@ -16,7 +16,7 @@ use Rattle.board_rules.specs.declared.Event.{Event}
 use Rattle.board_rules.specs.declared.Event.the-variants.{Use}
 use Rattle.board_rules.specs.declared.Outcome.{Outcome}
 use Rattle.board_rules.specs.Board.{leftOf, supply, isAsleep, underP, used, step}
-use Rattle.board_rules.specs.Events.{boardBy, boardAfter}
+use Rattle.board_events.specs.Events.{boardBy, boardAfter}
 use Rattle.board_keeps.specs.Fair.{InV}
 use Rattle.board_keeps.specs.Runs.{after-good}
 use Rattle.clock_rules.specs.Clock.{Timing, isOn, idles, idleUses}

@@ -8,7 +8,7 @@ use Rattle.figures.specs.System.{system}
 use Rattle.board_rules.specs.declared.Next.{Next}
 use Rattle.board_rules.specs.declared.Next.the-variants.{Nobody, To}
 use Rattle.board_rules.specs.Board.{fresh}
-use Rattle.board_rules.specs.Events.{boardBy, boardAfter}
+use Rattle.board_events.specs.Events.{boardBy, boardAfter}
 use Rattle.clock_rules.specs.Clock.{Timing, timingOf, Run, atFirst, tops, missed, mostPicks, asksAt, asked, idleUses, work, workDone, turn, afterTurn, cores, turns, afterTurns, opened, tick, unlessMissed, eventsAt, traceFrom, traceOf}
 use Rattle.clock_paced.specs.Paced.{Paced}
 use Rattle.clock_paced.specs.PacedLaws.{paced}

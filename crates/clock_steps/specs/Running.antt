@@ -20,7 +20,7 @@ use Rattle.board_rules.specs.declared.Event.the-variants.{Top}
 use Rattle.board_rules.specs.declared.Next.the-variants.{Nobody}
 use Rattle.board_rules.specs.declared.Outcome.{Outcome}
 use Rattle.board_rules.specs.Board.{holderOf, waitOf, fresh, topped, step, good}
-use Rattle.board_rules.specs.Events.{boardBy, boardAfter}
+use Rattle.board_events.specs.Events.{boardBy, boardAfter}
 use Rattle.board_keeps.specs.Fair.{InV, InN}
 use Rattle.board_keeps.specs.Shaped.{Shaped, fresh-shaped, step-shaped}
 use Rattle.board_rules.specs.Names.{seat-some}

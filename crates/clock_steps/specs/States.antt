@@ -6,7 +6,7 @@ use mathlib.Core.Logic.{_↔_}
 use native.Mathlib.Omega.{arith}
 use Rattle.board_rules.specs.declared.Next.{Next}
 use Rattle.board_rules.specs.declared.Next.the-variants.{Nobody, To}
-use Rattle.board_rules.specs.Events.{boardBy, boardAfter}
+use Rattle.board_events.specs.Events.{boardBy, boardAfter}
 use Rattle.clock_rules.specs.declared.RunAnswer.the-variants.{Ended, Missed}
 use Rattle.clock_rules.specs.Clock.{Timing, Run, atFirst, missed, tick, unlessMissed, runFrom, runOf, eventsAt, traceFrom}
 use Rattle.clock_paced.specs.Paced.{Paced}

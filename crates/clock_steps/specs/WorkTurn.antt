@@ -19,7 +19,7 @@ use Rattle.board_rules.specs.declared.Next.{Next}
 use Rattle.board_rules.specs.declared.Next.the-variants.{Nobody, To}
 use Rattle.board_rules.specs.declared.Outcome.{Outcome}
 use Rattle.board_rules.specs.Board.{seat, leftOf, holderOf, waitOf, underP, withHolder, freeFault, step}
-use Rattle.board_rules.specs.Events.{boardBy, boardAfter}
+use Rattle.board_events.specs.Events.{boardBy, boardAfter}
 use Rattle.board_keeps.specs.Fair.{InV, InN, InM}
 use Rattle.board_keeps.specs.Good.{good-sound}
 use Rattle.board_keeps.specs.Change.{holder-new}

@@ -1,6 +1,2 @@
 pub mod Strides
-pub mod Reaches
-pub mod Losing
-pub mod Spending
-pub mod Putting
-pub mod AllSpending
+pub mod TurnsOn

@@ -83,7 +83,7 @@ fn run_in(r: PlanRecord, vt: &[u64], mt: &[u64], ot: &[u64], ts: &[u64], h: u64)
     );
     let policy = r.policy;
     let choice = r.overrun;
-    clock_ticks::run(
+    clock_ends::run(
         policy,
         choice,
         &view,

@@ -1,5 +1,3 @@
 pub mod Ticks
 pub mod TickLaws
-pub mod RunLaws
 pub mod ListLaws
-pub mod StrideLaws

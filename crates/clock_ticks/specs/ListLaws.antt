@@ -1,28 +1,24 @@
--- A tick, and the run, as the lists say them.
-use Prim.Native.Nat.{ℕ, _+_, _-_, _<_, _≤_}
-use mathlib.Core.Path.{_≡_, refl, sym, ap, ap₂, subst, _∙_}
+-- A tick as the lists say it.
+use Prim.Native.Nat.{ℕ, _-_}
+use mathlib.Core.Path.{_≡_, ap₂, _∙_}
 use mathlib.Core.List.{List}
-use mathlib.Core.Bool.{Bool, false}
+use mathlib.Core.Bool.{Bool}
 use native.Mathlib.Omega.{arith}
 use Rattle.plan.specs.declared.Policy.{Policy}
 use Rattle.plan.specs.declared.OverrunChoice.{OverrunChoice}
-use Rattle.board_rules.specs.declared.Next.the-variants.{Nobody, To}
-use Rattle.board_rules.specs.Board.{nextOf}
+use Rattle.board_rules.specs.declared.Next.the-variants.{Nobody}
 use Rattle.board_rules.specs.View.{factsIn}
-use Rattle.clock_rules.specs.declared.RunAnswer.the-variants.{Ended}
-use Rattle.clock_rules.specs.Clock.{Timing, Run, tops, missed, cores, turns, afterTurns, opened, tick, runFrom}
+use Rattle.clock_rules.specs.Clock.{Timing, Run, tops, missed, cores, turns, afterTurns, opened}
 use Rattle.clock_rules.specs.Trace.{linesAt, tickText}
 use Rattle.clock_times.specs.Times.{timingIn}
-use Rattle.clock_marks.specs.Marks.{boardOf, runIn, doneIn}
+use Rattle.clock_marks.specs.Marks.{boardOf, runIn}
 use Rattle.board_rules.specs.BoardLaws.{next-none, next-some}
 use Rattle.clock_lines.specs.Told.{RoomAt}
-use Rattle.clock_nexts.specs.Nexts.{Nexts}
 use Rattle.clock_going.specs.Going.{timingBy, Going, Made}
-use Rattle.clock_opens.specs.Opens.{Opens, Opening}
+use Rattle.clock_opens.specs.Opens.{Opening}
 use Rattle.clock_turns.specs.Turned.{Turned}
-use Rattle.clock_ticks.specs.Ticks.{Over, Passing, Ticking, Reached}
+use Rattle.clock_ticks.specs.Ticks.{Ticking}
 use Rattle.clock_ticks.specs.TickLaws as laws
-use Rattle.clock_ticks.specs.RunLaws.{run-ended}
 
 module _ {p : Policy} {o : OverrunChoice} {view x ls os : List ℕ} {ss : List Bool} {hs ws k : List ℕ} (g : Going p o view x ls os ss hs ws k) (on : Bool) (t : ℕ) (a : List ℕ)
     (h : RoomAt on (tickText (timingBy p o view x) t (runIn ls os ss hs ws k)) a 0) where
@@ -79,15 +75,3 @@ module _ {p : Policy} {o : OverrunChoice} {view x ls os : List ℕ} {ss : List B
               over = λ e. record { going = u .going; after = laws.tick-after T on t r a h tops-made none is-open (u .made) (u .after); nexts = q .opens z .nexts };
             };
           }
-
--- THE RUN to h, from the state r at tick 0 on
-module _ {p : Policy} {o : OverrunChoice} {view x : List ℕ} {h : ℕ} {r : Run} where
-  -- at tick 0
-  pub reached-first : {ls os : List ℕ} {ss : List Bool} {hs ws k y : List ℕ} → Going p o view x ls os ss hs ws k → Nexts x y 0 → runIn ls os ss hs ws k ≡ r →
-      Reached p o view x h r 0 ls os ss hs ws k y
-  reached-first g n e = record { going = g; nexts = n; within = omega arith; rest = ap₂ (λ i s. runFrom (timingBy p o view x) i 0 s) (let z : h - 0 ≡ h = omega arith in z) e }
-
-  module _ {t : ℕ} {ls os : List ℕ} {ss : List Bool} {hs ws k y : List ℕ} (i : Reached p o view x h r t ls os ss hs ws k y) where
-    -- at h it has ended
-    pub reached-end : h ≤ t → Ended ≡ runFrom (timingBy p o view x) h 0 r
-    reached-end l = sym (run-ended (timingBy p o view x) h t (runIn ls os ss hs ws k) l) ∙ i .rest

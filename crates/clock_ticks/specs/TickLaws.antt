@@ -10,7 +10,7 @@ use Rattle.clock_rules.specs.Clock.{Timing, Run, tops, missed, cores, turns, af
 use Rattle.clock_rules.specs.Trace.{linesAt, tickText}
 use Rattle.clock_lines.specs.Told.{toldAt, toldTo, RoomAt}
 use Rattle.clock_going.specs.Going.{Made}
-use Rattle.clock_works.specs.Making.{room-begin, room-then, made-then}
+use Rattle.clock_uses.specs.Making.{room-begin, room-then, made-then}
 
 module _ (T : Timing) (on : Bool) (t : ℕ) (r : Run) (a : List ℕ) (h : RoomAt on (tickText T t r) a 0) where
   -- what comes behind the tops

@@ -17,7 +17,7 @@ use Rattle.board_rules.specs.declared.Event.the-variants.{Ask, Free, Use, Top, 
 use Rattle.board_rules.specs.declared.Next.{Next}
 use Rattle.board_rules.specs.declared.Next.the-variants.{Nobody, To}
 use Rattle.board_rules.specs.Board.{seat, holderOf, waitOf, passes, settled, withHolder, handedTo, grantedLocal, nextGlobal, mayHave, asked, freed, freedGlobal, freedLocal, used, topped, shown, answered, askFault, freeFault, useFault, topFault, showFault, fresh, step, good}
-use Rattle.board_rules.specs.Events.{boardAfter, boardBy}
+use Rattle.board_events.specs.Events.{boardAfter, boardBy}
 use Rattle.board_keeps.specs.Fair.{Fair, InV, InN, InM, task-v, sheet-v, sheet-n, sheet-m}
 use Rattle.board_keeps.specs.Shaped.{Shaped, fresh-shaped, holder-shaped, step-shaped}
 use Rattle.board_keeps.specs.Good.{barred-fails, good-sound}

@@ -14,7 +14,7 @@ use Rattle.plan.specs.Limits.{maxV, mostN}
 use Rattle.board_rules.specs.declared.Board.{Board}
 use Rattle.board_rules.specs.declared.Event.{Event}
 use Rattle.board_rules.specs.Board.{waitOf, fresh, taskPriority, vcpuPriority}
-use Rattle.board_rules.specs.Events.{boardAfter}
+use Rattle.board_events.specs.Events.{boardAfter}
 use Rattle.board_keeps.specs.Fair.{Fair, task-v}
 use Rattle.clock_rules.specs.Clock.{Timing, isUnfinished, isReady, hasReady, isOn, mayRun, pickV, pickN}
 use Rattle.clock_ties.specs.Ceiled.{Ceiled, run-ceiled}

@@ -1,3 +1,2 @@
 pub mod Turned
 pub mod Turning
-pub mod AllTurns

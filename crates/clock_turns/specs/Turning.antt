@@ -16,7 +16,7 @@ use Rattle.board_rules.specs.declared.Next.the-variants.{Nobody, To}
 use Rattle.board_rules.specs.declared.Event.the-variants.{Use}
 use Rattle.board_rules.specs.Board.{underP, nextOf}
 use Rattle.board_rules.specs.View.{factsIn}
-use Rattle.board_rules.specs.Events.{answers, boardAfter}
+use Rattle.board_events.specs.Events.{answers, boardAfter}
 use Rattle.clock_rules.specs.Clock.{Timing, Run, mostPicks, asksAt, asked, idles, idleUses, work, workDone, turn, afterTurn}
 use Rattle.clock_rules.specs.Trace.{linesAt}
 use Rattle.clock_times.specs.Times.{timingIn}
@@ -31,9 +31,9 @@ use Rattle.clock_steps.specs.Hands.{anyHandsOn}
 use Rattle.clock_going.specs.Going.{timingBy, Going, Made}
 use Rattle.clock_asks.specs.Asked.{Asked}
 use Rattle.board_rules.specs.BoardLaws.{next-none, next-some}
-use Rattle.clock_works.specs.Making.{made-none, made-then, room-begin, room-then}
+use Rattle.clock_uses.specs.Making.{made-none, made-then, room-begin, room-then}
 use Rattle.clock_works.specs.Worked.{WorkerOn}
-use Rattle.clock_works.specs.Handing.{asks-no-frees, idle-no-frees, hands-after, none-hands}
+use Rattle.clock_frees.specs.Handing.{asks-no-frees, idle-no-frees, hands-after, none-hands}
 use Rattle.clock_turns.specs.Turned.{Turned, Did, Uses}
 
 -- UNDER D nobody loses a tick

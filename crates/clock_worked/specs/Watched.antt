@@ -25,7 +25,7 @@ use Rattle.figures.specs.Named.{hasTask, taskAt}
 use Rattle.listing.specs.Listing.{line, vcpuLine, waitLine, waitLines, taskLine, taskLines, rising, allLine, listing, verdictText}
 use Rattle.board_rules.specs.Facts.{factsOf, lists}
 use Rattle.board_rules.specs.Board.{fresh, holdsGlobal, isBusy, supply, settled, askFault, mayHave, asked, freeFault, waiterV, waiterN, nextGlobal, freedGlobal, freed, useFault, used, topFault, topped, heldGlobal, heldLocal, taskPriority, vcpuPriority, step}
-use Rattle.board_rules.specs.Events.{boardBy}
+use Rattle.board_events.specs.Events.{boardBy}
 use Rattle.clock_rules.specs.declared.RunAnswer.{RunAnswer}
 use Rattle.clock_rules.specs.declared.RunAnswer.the-variants.{Missed}
 use Rattle.clock_rules.specs.Clock.{beginsIn, endsIn, timingOf, atFirst, tops, missed, released, pickV, pickN, picked, asks, idleUses, turn, afterTurn, afterTurns, opened as openedAt, tick, runFrom, runOf}

@@ -30,7 +30,7 @@ use Rattle.board_rules.specs.declared.BoardAnswer.{BoardAnswer}
 use Rattle.board_rules.specs.declared.BoardAnswer.the-variants.{Granted, Waits, Freed, Left}
 use Rattle.board_rules.specs.Facts.{factsOf, lists}
 use Rattle.board_rules.specs.Board.{fresh, holdsGlobal, isBusy, supply, mustStop, settled, askFault, mayHave, asked, freeFault, waiterV, waiterN, nextGlobal, freedGlobal, freed, useFault, used, topFault, topped, heldGlobal, heldLocal, taskPriority, vcpuPriority, step}
-use Rattle.board_rules.specs.Events.{answersBy, boardBy}
+use Rattle.board_events.specs.Events.{answersBy, boardBy}
 use Rattle.clock_rules.specs.declared.RunAnswer.{RunAnswer}
 use Rattle.clock_rules.specs.declared.RunAnswer.the-variants.{Ended, Missed}
 use Rattle.clock_rules.specs.Clock.{Timing, beginsIn, endsIn, timingOf, atFirst, tops, missed, released, pickV, pickN, picked, asks, idleUses, turn, afterTurn, turns, afterTurns, opened as openedAt, tick, runFrom, runOf, eventsAt, traceFrom, traceOf, traceAnswers}

@@ -1,7 +1,1 @@
-pub mod Making
-pub mod Idling
-pub mod Using
-pub mod Holding
-pub mod Freed
-pub mod Handing
 pub mod Worked

@@ -19,7 +19,7 @@ use Rattle.board_rules.specs.declared.Board.{Board}
 use Rattle.board_rules.specs.declared.Event.the-variants.{Free, Use}
 use Rattle.board_rules.specs.declared.Next.the-variants.{To}
 use Rattle.board_rules.specs.Board.{step}
-use Rattle.board_rules.specs.Events.{answers, boardBy, boardAfter}
+use Rattle.board_events.specs.Events.{answers, boardBy, boardAfter}
 use Rattle.board_keeps.specs.Fair.{InV, InN}
 use Rattle.clock_rules.specs.Clock.{Timing, doneOf, isReady, freeOf, work, workDone}
 use Rattle.clock_rules.specs.Trace.{linesAt}
@@ -41,10 +41,10 @@ use Rattle.clock_steps.specs.WorkTurn.{work-accepted, work-running}
 use Rattle.clock_lines.specs.Told.{RoomAt}
 use Rattle.clock_steps.specs.Hands.{anyHandsOn}
 use Rattle.clock_going.specs.Going.{timingBy, Going, Made}
-use Rattle.clock_works.specs.Making.{made-then, room-begin, room-then}
-use Rattle.clock_works.specs.Using.{Uses}
-use Rattle.clock_works.specs.Freed.{Frees, nextIn, freed-answer, lengths-in}
-use Rattle.clock_works.specs.Handing.{hands-after}
+use Rattle.clock_uses.specs.Making.{made-then, room-begin, room-then}
+use Rattle.clock_uses.specs.Using.{Uses}
+use Rattle.clock_frees.specs.Freed.{Frees, nextIn, freed-answer, lengths-in}
+use Rattle.clock_frees.specs.Handing.{hands-after}
 
 -- (v, n) is what some core picked
 pub record WorkerOn (T : Timing) (b : Board) (d : List ℕ) (v n : ℕ) : Type 0 where

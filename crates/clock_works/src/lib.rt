@@ -1,292 +1,22 @@
-// The idle uses and the work of a core's turn on the clock, on the board's arrays and what is kept beside them. What they are stands in specs/Clock of `clock_rules`.
+// The work of a core's turn on the clock, on the board's arrays and what is kept beside them. What it is stands in specs/Clock of `clock_rules`.
 use board_rules::Board;
-use board_rules::BoardAnswer;
 use board_rules::Event;
 use board_rules::Next;
+use clock_frees::Worked;
 use plan::OverrunChoice;
 use plan::Policy;
 ghost use mathlib.Core.Path.{_≡_};
-ghost use mathlib.Core.Bool.{true};
-ghost use mathlib.Core.List.{[], _∷_};
 ghost use Prim.Native.Nat.{_<_, _≤_};
-ghost use Rattle.board_supply.specs.Supplies.{underP};
 ghost use Rattle.board_rules.specs.View.{factsIn};
-ghost use Rattle.board_rules.specs.Events.{answers};
-ghost use Rattle.clock_rules.specs.Clock.{idleUses, freeOf, work, workDone};
+ghost use Rattle.board_events.specs.Events.{answers};
+ghost use Rattle.clock_rules.specs.Clock.{work, workDone};
 ghost use Rattle.clock_rules.specs.Trace.{linesAt};
 ghost use Rattle.clock_lines.specs.Told.{RoomAt};
-ghost use Rattle.clock_marks.specs.Marks.{Sized, Mirrors, boardOf, runIn, doneIn, doneCell, placeCell};
+ghost use Rattle.clock_marks.specs.Marks.{Sized, boardOf, runIn, doneIn, doneCell, placeCell};
 ghost use Rattle.clock_mirrors.specs.Writes.{PutJob};
 ghost use Rattle.clock_steps.specs.Hands.{anyHandsOn};
 ghost use Rattle.clock_going.specs.Going.{timingBy, Going, Made};
-ghost use Rattle.clock_works.specs.Using.{Uses, AfterUse};
-ghost use Rattle.clock_works.specs.Holding.{holdsIn};
-ghost use Rattle.clock_works.specs.Freed.{nextIn, NextIn, heldAt, Handed, Passed, GotGlobal, PutFreed, Frees};
-ghost use Rattle.clock_works.specs.Handing.{goesOn};
 ghost use Rattle.clock_works.specs.Worked.{WorkerOn, placeWith, OneMore};
-
-// Where the text goes on after the work of a turn; and whether a mutex was handed on in it.
-pub struct Worked {
-    pub at: usize,
-    pub handed: bool,
-}
-
-// What is kept of the supply of v after a tick of it is used, or a mutex of it freed: nothing changes while budget is left.
-fn after_use(
-    choice: OverrunChoice,
-    left: &[u64],
-    over: &[u64],
-    stopped: &[bool],
-    marks: &mut [u64],
-    v: u64,
-)
-    requires { ⌜ Sized (now marks) × (0 < v) × (v ≤ 16) ⌝ }
-    ensures { λ out. ⌜ AfterUse choice (now (left .entry)) (now (over .entry)) (now (stopped .entry)) (now (marks .entry)) (now (marks .exit)) v ⌝ }
-{
-    if board_seats::figure(left, v) == 0 {
-        clock_puts::put_supply(choice, left, over, stopped, marks, v);
-    }
-}
-
-// One tick of v is used, which is not refused: no mutex is walked over.
-fn use_one(
-    on: bool,
-    policy: Policy,
-    choice: OverrunChoice,
-    view: &[u64],
-    times: &[u64],
-    left: &mut [u64],
-    over: &mut [u64],
-    stopped: &mut [bool],
-    holder: &[u16],
-    waits: &[u8],
-    marks: &mut [u64],
-    v: u64,
-    t: u64,
-    out: &mut [u8],
-    at: usize,
-) -> usize
-    requires { ⌜ (0 < v) × (v ≤ 16) × Going policy choice (now view) (now times) (now left) (now over) (now stopped) (now holder) (now waits) (now marks) × Uses (factsIn policy choice (now view)) (boardOf (now left) (now over) (now stopped) (now holder) (now waits)) v ⌝ }
-    requires { ⌜ RoomAt on (linesAt (factsIn policy choice (now view)) t (boardOf (now left) (now over) (now stopped) (now holder) (now waits)) (Event.Use v 1 ∷ [])) (now out) at ⌝ }
-    ensures { λ r. ⌜ Going policy choice (now (view .entry)) (now (times .entry)) (now (left .exit)) (now (over .exit)) (now (stopped .exit)) (now (holder .entry)) (now (waits .entry)) (now (marks .exit)) ⌝ }
-    ensures { λ r. ⌜ Made (factsIn policy choice (now (view .entry))) on t (runIn (now (left .entry)) (now (over .entry)) (now (stopped .entry)) (now (holder .entry)) (now (waits .entry)) (now (marks .entry))) (runIn (now (left .exit)) (now (over .exit)) (now (stopped .exit)) (now (holder .entry)) (now (waits .entry)) (now (marks .exit))) (Event.Use v 1 ∷ []) (now (out .entry)) at (now (out .exit)) r ⌝ }
-    ensures { λ r. ⌜ doneIn (now (marks .exit)) ≡ doneIn (now (marks .entry)) ⌝ }
-{
-    let holds = clock_sets::has(board_seats::at(marks, 3), v);
-    let a = Board::use_sure(policy, choice, view, left, over, stopped, holder, v, holds);
-    after_use(choice, left, over, stopped, marks, v);
-    clock_lines::tell(on, out, at, t, Event::Use { v, t: 1 }, a)
-}
-
-// Each VCPU of core c with budget and no ready task loses a tick.
-pub fn idle_uses(
-    on: bool,
-    policy: Policy,
-    choice: OverrunChoice,
-    view: &[u64],
-    times: &[u64],
-    left: &mut [u64],
-    over: &mut [u64],
-    stopped: &mut [bool],
-    holder: &[u16],
-    waits: &[u8],
-    marks: &mut [u64],
-    c: u64,
-    t: u64,
-    out: &mut [u8],
-    at: usize,
-) -> usize
-    requires { ⌜ (c ≤ 3) × (underP policy ≡ true) × Going policy choice (now view) (now times) (now left) (now over) (now stopped) (now holder) (now waits) (now marks) ⌝ }
-    requires { ⌜ RoomAt on (linesAt (factsIn policy choice (now view)) t (boardOf (now left) (now over) (now stopped) (now holder) (now waits)) (idleUses (timingBy policy choice (now view) (now times)) c (boardOf (now left) (now over) (now stopped) (now holder) (now waits)) (doneIn (now marks)))) (now out) at ⌝ }
-    ensures { λ r. ⌜ Going policy choice (now (view .entry)) (now (times .entry)) (now (left .exit)) (now (over .exit)) (now (stopped .exit)) (now (holder .entry)) (now (waits .entry)) (now (marks .exit)) ⌝ }
-    ensures { λ r. ⌜ Made (factsIn policy choice (now (view .entry))) on t (runIn (now (left .entry)) (now (over .entry)) (now (stopped .entry)) (now (holder .entry)) (now (waits .entry)) (now (marks .entry))) (runIn (now (left .exit)) (now (over .exit)) (now (stopped .exit)) (now (holder .entry)) (now (waits .entry)) (now (marks .exit))) (idleUses (timingBy policy choice (now (view .entry)) (now (times .entry))) c (boardOf (now (left .entry)) (now (over .entry)) (now (stopped .entry)) (now (holder .entry)) (now (waits .entry))) (doneIn (now (marks .entry)))) (now (out .entry)) at (now (out .exit)) r ⌝ }
-    ensures { λ r. ⌜ doneIn (now (marks .exit)) ≡ doneIn (now (marks .entry)) ⌝ }
-{
-    let mut w = at;
-    let mut rest = clock_picks::idlers(marks, c);
-    while rest != 0 {
-        let v = clock_sets::lowest_in(rest);
-        if 1 < board_seats::figure(left, v) {
-            let a = Board::use_within(policy, choice, view, left, over, stopped, holder, v);
-            w = clock_lines::tell(on, out, w, t, Event::Use { v, t: 1 }, a);
-        } else {
-            w = use_one(
-                on,
-                policy,
-                choice,
-                view,
-                times,
-                left,
-                over,
-                stopped,
-                holder,
-                waits,
-                marks,
-                v,
-                t,
-                out,
-                w,
-            );
-        }
-        rest = clock_sets::without(rest, v);
-    }
-    w
-}
-
-// Who gets the freed mutex.
-fn next_in(a: BoardAnswer) -> Next
-    ensures { λ r. ⌜ r ≡ nextIn a ⌝ }
-{
-    match a {
-        BoardAnswer::Granted => Next::Nobody,
-        BoardAnswer::Waits => Next::Nobody,
-        BoardAnswer::Freed(w) => w,
-        BoardAnswer::Left { b: _, o: _ } => Next::Nobody,
-        BoardAnswer::Shows { task: _, vcpu: _ } => Next::Nobody,
-        BoardAnswer::Refused(_) => Next::Nobody,
-    }
-}
-
-// The freed mutex goes to a task that waited.
-fn goes_on(next: Next) -> bool
-    ensures { λ r. ⌜ r ≡ goesOn next ⌝ }
-{
-    match next {
-        Next::Nobody => false,
-        Next::To { v: _, n: _ } => true,
-    }
-}
-
-// What task (w, x) holds, by the holders.
-fn held_now(view: &[u64], holder: &[u16], w: u64, x: u64) -> u64
-    requires { ⌜ (w ≤ 16) × (x ≤ 8) ⌝ }
-    ensures { λ r. ⌜ r ≡ heldAt (now (view .entry)) (now (holder .entry)) w x ⌝ }
-{
-    if board_walks::held_global(view, holder, w, x) {
-        return 33;
-    }
-    board_walks::held_local(view, holder, w, x)
-}
-
-// Task (w, x), who waited, has been handed a mutex: it holds m, and the tasks of w hold a global mutex or not.
-fn handed(marks: &mut [u64], w: u64, x: u64, m: u64, global: bool)
-    requires { ⌜ Sized (now marks) × (0 < w) × (w ≤ 16) × (0 < x) × (x ≤ 8) ⌝ }
-    ensures { λ out. ⌜ Handed m global w x (now (marks .entry)) (now (marks .exit)) ⌝ }
-{
-    clock_puts::put_held(marks, w, x, m);
-    clock_puts::put_ready(marks, w, x, true);
-    clock_puts::put_in(marks, clock_puts::HOLDING, w, global);
-}
-
-// The next one has the mutex, where there is one: no mutex is walked over for a global one.
-fn passed(view: &[u64], holder: &[u16], marks: &mut [u64], global: bool, next: Next)
-    requires { ⌜ Sized (now marks) × NextIn next × GotGlobal (now view) (now holder) global next ⌝ }
-    ensures { λ out. ⌜ Passed (now (view .entry)) (now (holder .entry)) next (now (marks .entry)) (now (marks .exit)) ⌝ }
-{
-    match next {
-        Next::Nobody => {}
-        Next::To { v: w, n: x } => {
-            if global {
-                handed(marks, w, x, 33, true);
-            } else {
-                let m = held_now(view, holder, w, x);
-                let held = board_walks::holds_global(view, holder, w);
-                handed(marks, w, x, m, held);
-            }
-        }
-    }
-}
-
-// Some task of v holds a global mutex, by what is kept of its holders.
-fn holds_in(marks: &[u64], v: u64) -> bool
-    requires { ⌜ Sized (now marks) × (0 < v) × (v ≤ 16) ⌝ }
-    ensures { λ r. ⌜ r ≡ holdsIn (now (marks .entry)) v ⌝ }
-{
-    let mut rest = board_seats::at(marks, 19 + v);
-    while rest != 0 {
-        let x = clock_sets::highest_in(rest);
-        if clock_puts::held(marks, v, x) == 33 {
-            return true;
-        }
-        rest = clock_sets::without(rest, x);
-    }
-    false
-}
-
-// Task (v, n) has freed its mutex, and the next one has it.
-fn after_free(
-    choice: OverrunChoice,
-    view: &[u64],
-    left: &[u64],
-    over: &[u64],
-    stopped: &[bool],
-    holder: &[u16],
-    marks: &mut [u64],
-    v: u64,
-    n: u64,
-    global: bool,
-    next: Next,
-)
-    requires { ⌜ Sized (now marks) × (0 < v) × (v ≤ 16) × (0 < n) × (n ≤ 8) × NextIn next × GotGlobal (now view) (now holder) global next ⌝ }
-    ensures { λ out. ⌜ PutFreed choice (now (view .entry)) (now (left .entry)) (now (over .entry)) (now (stopped .entry)) (now (holder .entry)) v n next (now (marks .entry)) (now (marks .exit)) ⌝ }
-{
-    clock_puts::put_held(marks, v, n, 0);
-    passed(view, holder, marks, global, next);
-    let held = holds_in(marks, v);
-    clock_puts::put_in(marks, clock_puts::HOLDING, v, held);
-    after_use(choice, left, over, stopped, marks, v);
-}
-
-// Task (v, n) frees m, where a section is finished.
-fn freeing(
-    on: bool,
-    policy: Policy,
-    choice: OverrunChoice,
-    view: &[u64],
-    times: &[u64],
-    left: &[u64],
-    over: &[u64],
-    stopped: &mut [bool],
-    holder: &mut [u16],
-    waits: &mut [u8],
-    marks: &mut [u64],
-    v: u64,
-    n: u64,
-    m: u64,
-    t: u64,
-    out: &mut [u8],
-    at: usize,
-) -> Worked
-    requires { ⌜ (0 < v) × (v ≤ 16) × (0 < n) × (n ≤ 8) × Going policy choice (now view) (now times) (now left) (now over) (now stopped) (now holder) (now waits) (now marks) × Frees (factsIn policy choice (now view)) (boardOf (now left) (now over) (now stopped) (now holder) (now waits)) v n m ⌝ }
-    requires { ⌜ RoomAt on (linesAt (factsIn policy choice (now view)) t (boardOf (now left) (now over) (now stopped) (now holder) (now waits)) (freeOf v n m)) (now out) at ⌝ }
-    ensures { λ r. ⌜ Mirrors (timingBy policy choice (now (view .entry)) (now (times .entry))) (now (times .entry)) (boardOf (now (left .entry)) (now (over .entry)) (now (stopped .exit)) (now (holder .exit)) (now (waits .exit))) (now (marks .exit)) ⌝ }
-    ensures { λ r. ⌜ Made (factsIn policy choice (now (view .entry))) on t (runIn (now (left .entry)) (now (over .entry)) (now (stopped .entry)) (now (holder .entry)) (now (waits .entry)) (now (marks .entry))) (runIn (now (left .entry)) (now (over .entry)) (now (stopped .exit)) (now (holder .exit)) (now (waits .exit)) (now (marks .exit))) (freeOf v n m) (now (out .entry)) at (now (out .exit)) (r .at) ⌝ }
-    ensures { λ r. ⌜ doneIn (now (marks .exit)) ≡ doneIn (now (marks .entry)) ⌝ }
-    ensures { λ r. ⌜ r .handed ≡ anyHandsOn (answers (factsIn policy choice (now (view .entry))) (boardOf (now (left .entry)) (now (over .entry)) (now (stopped .entry)) (now (holder .entry)) (now (waits .entry))) (freeOf v n m)) ⌝ }
-{
-    if m == 0 {
-        return Worked { at, handed: false };
-    }
-    let a = Board::free_sure(policy, choice, view, left, stopped, holder, waits, v, n, m);
-    let global = board_seats::is_global(view, m);
-    let next = next_in(a);
-    let handed = goes_on(next);
-    after_free(
-        choice,
-        view,
-        left,
-        over,
-        stopped,
-        holder,
-        marks,
-        v,
-        n,
-        global,
-        next,
-    );
-    let w = clock_lines::tell(on, out, at, t, Event::Free { v, n, m }, a);
-    Worked { at: w, handed }
-}
 
 // d ticks are done of the job of (v, n), and one more section has ended where m is not 0.
 fn put_job(marks: &mut [u64], v: u64, n: u64, m: u64, d: u64)
@@ -340,10 +70,10 @@ pub fn work(
     ensures { λ r. ⌜ r .handed ≡ anyHandsOn (answers (factsIn policy choice (now (view .entry))) (boardOf (now (left .entry)) (now (over .entry)) (now (stopped .entry)) (now (holder .entry)) (now (waits .entry))) (work (timingBy policy choice (now (view .entry)) (now (times .entry))) (doneIn (now (marks .entry))) (Next.To v n))) ⌝ }
 {
     let used = if 1 < board_seats::figure(left, v) {
-        let a = Board::use_within(policy, choice, view, left, over, stopped, holder, v);
+        let a = board_sures::use_within(policy, choice, view, left, over, stopped, holder, v);
         clock_lines::tell(on, out, at, t, Event::Use { v, t: 1 }, a)
     } else {
-        use_one(
+        clock_uses::use_one(
             on,
             policy,
             choice,
@@ -362,7 +92,7 @@ pub fn work(
         )
     };
     let m = clock_picks::over(times, marks, v, n);
-    let freed = freeing(
+    let freed = clock_frees::freeing(
         on,
         policy,
         choice,

@@ -22,7 +22,7 @@ use Rattle.figures.specs.System.{system}
 use Rattle.figures.specs.Tabled.{systemIn}
 use Rattle.listing.specs.Listing.{listing, refusedLine, readText, verdictText}
 use Rattle.board_rules.specs.Facts.{factsOf}
-use Rattle.board_rules.specs.Events.{eventsText, boardText}
+use Rattle.board_events.specs.Events.{eventsText, boardText}
 use Rattle.listing_lines.specs.declared.TextAnswer.{TextAnswer}
 use Rattle.listing_lines.specs.Into.{textAnswer, textAfter}
 use Rattle.records_read.specs.Lies.{Sure, refused-reads, left-lies}

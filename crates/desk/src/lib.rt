@@ -11,7 +11,7 @@ ghost use Rattle.plan.specs.Reading.{reading};
 ghost use Rattle.plan_tables.specs.Layout.{lent};
 ghost use Rattle.plan_tables.specs.Given.{isGiven};
 ghost use Rattle.listing.specs.Listing.{refusedLine, verdictText};
-ghost use Rattle.board_rules.specs.Events.{boardText};
+ghost use Rattle.board_events.specs.Events.{boardText};
 ghost use Rattle.text_letters.specs.Wrote.{Wrote};
 ghost use Rattle.listing_lines.specs.Into.{textAnswer, textAfter, bytesIn};
 ghost use Rattle.records_read.specs.Lies.{Sure};

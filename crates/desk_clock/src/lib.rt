@@ -4,7 +4,7 @@ use plan::Refusal;
 use read_answer::PlanAnswer;
 ghost use mathlib.Core.Path.{_≡_};
 ghost use Rattle.plan_tables.specs.Layout.{lent};
-ghost use Rattle.desk_clock.specs.Ran.{runOr, runBytes};
+ghost use Rattle.desk_runs.specs.Ran.{runOr, runBytes};
 
 // The run to horizon h of an accepted plan in tables; for a refused one its number.
 fn run_or(a: PlanAnswer, vt: &[u64], mt: &[u64], ot: &[u64], ts: &[u64], h: u64) -> RunAnswer

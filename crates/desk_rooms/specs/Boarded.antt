@@ -18,7 +18,7 @@ use Rattle.board_rules.specs.Facts.{Facts, factsOf}
 use Rattle.board_rules.specs.View.{viewLength, factsIn}
 use Rattle.board_rules.specs.declared.Board.{Board}
 use Rattle.board_rules.specs.Board.{fresh}
-use Rattle.board_rules.specs.Events.{repliesTo}
+use Rattle.board_events.specs.Events.{repliesTo}
 use Rattle.board_keeps.specs.FairLaws.{fair}
 use Rattle.board_keeps.specs.Runs.{fresh-good}
 use Rattle.board_viewcells.specs.ViewOf.{viewOf}

@@ -14,7 +14,7 @@ use Rattle.plan.specs.Reading.{Reading, Accepts, Refuses, reading}
 use Rattle.plan.specs.Accepted.{read-text}
 use Rattle.listing.specs.Listing.{refusedLine, verdictText}
 use Rattle.listing_order.specs.Bound.{refused-bound, refused-line, verdict-bound}
-use Rattle.board_rules.specs.Events.{eventsText, boardText}
+use Rattle.board_events.specs.Events.{eventsText, boardText}
 use Rattle.text_letters.specs.Wrote.{Wrote}
 use Rattle.listing_lines.specs.declared.TextAnswer.{TextAnswer}
 use Rattle.listing_lines.specs.Into.{textAnswer, textAfter, bytesIn}

@@ -3,9 +3,9 @@ use clock_rules::RunAnswer;
 use plan::Refusal;
 ghost use mathlib.Core.Path.{_≡_};
 ghost use Rattle.listing.specs.Listing.{verdictText};
-ghost use Rattle.board_rules.specs.Events.{boardText};
+ghost use Rattle.board_events.specs.Events.{boardText};
 ghost use Rattle.listing_lines.specs.Into.{textAnswer, textAfter};
-ghost use Rattle.desk_clock.specs.Ran.{runInto};
+ghost use Rattle.desk_runs.specs.Ran.{runInto};
 ghost use Rattle.exports_codes.specs.Exported.{exported, runExported, missedLeft};
 
 // What `verdict` prints for any input, into a lent buffer; with too little room -8, and the buffer as it was lent.
@@ -34,7 +34,7 @@ pub extern "C" fn ryefrost_run(plan: &[u8], horizon: u64, missed: &mut [u64]) ->
     ensures { λ n. ⌜ n ≡ runExported (runInto (now (plan .entry)) horizon (now (missed .entry))) ⌝ }
     ensures { λ n. ⌜ now (missed .exit) ≡ missedLeft (runInto (now (plan .entry)) horizon (now (missed .entry))) (now (missed .entry)) ⌝ }
 {
-    if missed.len() < 3 {
+    if exports_codes::too_few(missed.len()) {
         return exports_codes::run_exported(RunAnswer::NoRun(Refusal::Room));
     }
     let a = desk_clock::run_bytes(plan, horizon);

@@ -4,6 +4,7 @@ use listing_lines::TextAnswer;
 use plan::Refusal;
 ghost use mathlib.Core.Path.{_≡_};
 ghost use Prim.Native.Nat.{_≤_, _<_, _^_};
+ghost use lib.Dec.{ltb};
 ghost use lib.ListN.{length};
 ghost use Rattle.listing_lines.specs.Into.{bytesIn};
 ghost use Rattle.exports_codes.specs.Exported.{negated, exported, runExported, missedLeft};
@@ -55,6 +56,13 @@ pub fn run_exported(a: RunAnswer) -> i64
         } => 1,
         RunAnswer::NoRun(r) => negated(r),
     }
+}
+
+// Are n places too few for the three numbers of a missed job?
+pub fn too_few(n: usize) -> bool
+    ensures { λ b. ⌜ b ≡ ltb n 3 ⌝ }
+{
+    n < 3
 }
 
 // Leaves the tick, v and n of a missed job in the first three places.

@@ -38,7 +38,7 @@ use Rattle.board_rules.specs.declared.BoardAnswer.{BoardAnswer}
 use Rattle.board_rules.specs.declared.BoardAnswer.the-variants.{Granted, Waits, Freed, Left, Refused}
 use Rattle.board_rules.specs.declared.Outcome.{Outcome}
 use Rattle.board_rules.specs.Board.{seat, leftOf, overOf, waitOf, withLeft, withHolder, withWait, settled, complete, handedTo, grantedLocal, nextOf, waiterV, waiterN, nextGlobal, localN, nextLocal, mayHave, passes, asked, freed, freedGlobal, freedLocal, used, topped, heldGlobal, heldLocal, raisedBy, taskPriority, vcpuPriority, holdsGlobal, shown, answered, askFault, freeFault, useFault, topFault, showFault, step, good}
-use Rattle.board_rules.specs.Events.{eventOf, onEvent, onItem, onLine, lineAnswers, wFreed, wLeft, answerFields, answersText, repliesTo}
+use Rattle.board_events.specs.Events.{eventOf, onEvent, onItem, onLine, lineAnswers, wFreed, wLeft, answerFields, answersText, repliesTo}
 use Rattle.board_keeps.specs.Fair.{Fair, InV, InN, task-v}
 use Rattle.board_keeps.specs.Good.{good-sound}
 use Rattle.board_keeps.specs.Faults.{free-clear, use-clear, top-clear}

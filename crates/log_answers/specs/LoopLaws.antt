@@ -21,7 +21,7 @@ use Rattle.board_rules.specs.declared.Board.{Board}
 use Rattle.board_rules.specs.declared.BoardAnswer.{BoardAnswer}
 use Rattle.board_rules.specs.declared.BoardAnswer.the-variants.{Refused}
 use Rattle.board_rules.specs.declared.Outcome.{Outcome}
-use Rattle.board_rules.specs.Events.{onLine, atEnd, lineAnswers, answerFields, answersText, repliesTo}
+use Rattle.board_events.specs.Events.{onLine, atEnd, lineAnswers, answerFields, answersText, repliesTo}
 use Rattle.log_replies.specs.Parts.{endText}
 use Rattle.log_replies.specs.PartsLaws.{end-none, end-some}
 

@@ -8,11 +8,11 @@ use Rattle.board_rules.specs.declared.Board.{Board}
 use Rattle.board_rules.specs.declared.BoardAnswer.{BoardAnswer}
 use Rattle.board_rules.specs.declared.BoardAnswer.the-variants.{Granted, Waits, Freed, Left, Shows, Refused}
 use Rattle.board_rules.specs.declared.Outcome.{Outcome}
-use Rattle.board_rules.specs.Events.{onLine}
+use Rattle.board_events.specs.Events.{onLine}
 use Rattle.board_rules.specs.Settle.{Marked}
-use Rattle.board_rules.specs.Marked.{line-marked}
-use Rattle.board_rules.specs.Printed.{LineSays, AnEvent, NoEvent, saysOf}
-use Rattle.board_rules.specs.PrintedLaws.{onSays, line-says}
+use Rattle.board_events.specs.LineMarks.{line-marked}
+use Rattle.board_events.specs.Printed.{LineSays, AnEvent, NoEvent, saysOf}
+use Rattle.board_events.specs.PrintedLaws.{onSays, line-says}
 use Rattle.board_keeps.specs.Leaves.{Leaves, step-leaves}
 use Rattle.log_answers.specs.Tells.{moving}
 

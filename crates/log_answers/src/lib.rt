@@ -13,7 +13,7 @@ ghost use Rattle.listing.specs.Listing.{line};
 ghost use Rattle.text_letters.specs.Wrote.{Wrote};
 ghost use Rattle.board_rules.specs.View.{factsIn};
 ghost use Rattle.board_rules.specs.Settle.{Marked};
-ghost use Rattle.board_rules.specs.Events.{answerFields, repliesTo};
+ghost use Rattle.board_events.specs.Events.{answerFields, repliesTo};
 ghost use Rattle.log_replies.specs.Parts.{endText};
 ghost use Rattle.log_answers.specs.Tells.{toldInto, moving, Space, Adds};
 

@@ -17,7 +17,7 @@ use Rattle.board_rules.specs.declared.Board.{Board}
 use Rattle.board_rules.specs.declared.Event.{Event}
 use Rattle.board_rules.specs.declared.Outcome.{Outcome}
 use Rattle.board_rules.specs.Board.{step, refused}
-use Rattle.board_rules.specs.Events.{eventOf, onEvent, onItem, onLine}
+use Rattle.board_events.specs.Events.{eventOf, onEvent, onItem, onLine}
 use Rattle.log_lines.specs.Told.{toldOf, onSaid, onTold}
 
 told-event : (F : Facts) (b : Board) (ok : Bool) (o : Option Event) → onTold F b ok (toldOf o) ≡ onEvent F b ok o

@@ -13,7 +13,7 @@ ghost use Rattle.plan.specs.Line.{shape, written, numsOf};
 ghost use Rattle.text_lines.specs.Said.{saidItem};
 ghost use Rattle.board_rules.specs.View.{factsIn};
 ghost use Rattle.board_rules.specs.Settle.{Marked};
-ghost use Rattle.board_rules.specs.Events.{eventOf, onItem, onLine};
+ghost use Rattle.board_events.specs.Events.{eventOf, onItem, onLine};
 ghost use Rattle.log_lines.specs.Told.{toldOf, onSaid, onTold};
 
 // The event that a line tells, if it tells one.

@@ -12,7 +12,7 @@ use Rattle.board_rules.specs.declared.Next.{Next}
 use Rattle.board_rules.specs.declared.Next.the-variants.{Nobody, To}
 use Rattle.board_rules.specs.declared.BoardAnswer.{BoardAnswer}
 use Rattle.board_rules.specs.declared.BoardAnswer.the-variants.{Granted, Waits, Freed, Left, Shows, Refused}
-use Rattle.board_rules.specs.Events.{wGranted, wWaits, wFreed, wLeft, answerFields}
+use Rattle.board_events.specs.Events.{wGranted, wWaits, wFreed, wLeft, answerFields}
 pub use Rattle.log_replies.specs.declared.Parts.{Parts}
 
 -- an answer, taken apart

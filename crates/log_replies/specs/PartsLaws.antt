@@ -19,7 +19,7 @@ use Rattle.listing_lines.specs.SizeLaws.{line-sized}
 use Rattle.board_rules.specs.declared.Next.the-variants.{Nobody, To}
 use Rattle.board_rules.specs.declared.BoardAnswer.{BoardAnswer}
 use Rattle.board_rules.specs.declared.BoardAnswer.the-variants.{Granted, Waits, Freed, Left, Shows, Refused}
-use Rattle.board_rules.specs.Events.{wGranted, wWaits, wFreed, wLeft, answerFields}
+use Rattle.board_events.specs.Events.{wGranted, wWaits, wFreed, wLeft, answerFields}
 use Rattle.log_replies.specs.Parts.{Parts, partsOf, plainText, pairWord, partsText, endText}
 
 -- THE TEXT OF AN ANSWER

@@ -17,7 +17,7 @@ use Rattle.text_letters.specs.SizeLaws.{rest-sized, end-sized}
 use Rattle.listing_lines.specs.SizeLaws.{line-sized}
 use Rattle.board_rules.specs.declared.BoardAnswer.{BoardAnswer}
 use Rattle.board_rules.specs.declared.BoardAnswer.the-variants.{Refused}
-use Rattle.board_rules.specs.Events.{wGranted, wWaits, wFreed, answerFields}
+use Rattle.board_events.specs.Events.{wGranted, wWaits, wFreed, answerFields}
 
 decimal-sized : (w n : ℕ) → 0 < w → n < 10 ^ w → Sized (decimal n) w (length (decimal n))
 decimal-sized w n p h = record { is = refl; small = decimal-length w n p h }

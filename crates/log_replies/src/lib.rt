@@ -10,7 +10,7 @@ ghost use Rattle.laws.specs.Decimal.{decimal};
 ghost use Rattle.plan.specs.declared.Refusal.the-variants.{Shape};
 ghost use Rattle.listing.specs.Listing.{line};
 ghost use Rattle.text_letters.specs.Wrote.{Wrote, Sized};
-ghost use Rattle.board_rules.specs.Events.{answerFields};
+ghost use Rattle.board_events.specs.Events.{answerFields};
 ghost use Rattle.log_replies.specs.Parts.{nextParts, partsOf, plainText, pairWord, partsText};
 
 // An answer, taken apart: how many numbers its line has, which of the lines with as many it is, and the numbers.

@@ -15,7 +15,7 @@ ghost use Rattle.figures.specs.System.{system};
 ghost use Rattle.board_rules.specs.Facts.{factsOf};
 ghost use Rattle.board_rules.specs.View.{factsIn};
 ghost use Rattle.board_rules.specs.Settle.{Marked};
-ghost use Rattle.board_rules.specs.Events.{repliesTo};
+ghost use Rattle.board_events.specs.Events.{repliesTo};
 ghost use Rattle.listing_lines.specs.Into.{textAnswer, textAfter};
 ghost use Rattle.listing_lines.specs.IntoLaws.{RoomFor};
 ghost use Rattle.desk_rooms.specs.Boarded.{answersFor};

@@ -5,7 +5,7 @@ use Rattle.board_rules.specs.View.{factsIn}
 use Rattle.board_rules.specs.Board.{step}
 use Rattle.board_rules.specs.declared.Event.the-variants.{Ask}
 use Rattle.clock_marks.specs.Marks.{boardOf}
-use Rattle.clock_asks.specs.Passing.{mayBy}
+use Rattle.clock_passes.specs.Passing.{mayBy}
 use Rattle.clock_asks.specs.AskLaws.{answer-room, answer-kept}
 use Rattle.clock_asks.proofs.ask.Statement.{statement}
 use Rattle.clock_asks.proofs.ask.Tie as tie

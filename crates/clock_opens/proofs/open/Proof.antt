@@ -1,6 +1,6 @@
 -- `open` meets its contract.
 use borrow.Author.Needs.{needs}
-use Rattle.clock_nexts.specs.DueLaws.{paired-periods}
+use Rattle.clock_misses.specs.DueLaws.{paired-periods}
 use Rattle.clock_opens.specs.OpenLaws.{opening}
 use Rattle.clock_opens.proofs.open.Statement.{statement}
 use Rattle.clock_opens.proofs.open.Tie as tie

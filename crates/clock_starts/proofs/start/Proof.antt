@@ -1,7 +1,7 @@
 -- `start` meets its contract.
 use mathlib.Core.Path.{_∙_}
 use borrow.Author.Needs.{needs}
-use Rattle.clock_starts.specs.StartLaws.{done-sized}
+use Rattle.clock_firsts.specs.StartLaws.{done-sized}
 use Rattle.clock_starts.specs.FirstLaws.{fresh-is, started}
 use Rattle.clock_starts.proofs.start.Statement.{statement}
 use Rattle.clock_starts.proofs.start.Tie as tie

@@ -1,4 +1,4 @@
-use Rattle.clock_strides.specs.Putting.{forgot-handed}
+use Rattle.clock_strides.specs.TurnsOn.{forgot-handed}
 use mathlib.Core.Path.{refl}
 use borrow.Author.Needs.{needs}
 use Rattle.clock_strides.proofs.forget_if.Statement.{statement}

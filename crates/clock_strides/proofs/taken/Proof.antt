@@ -1,5 +1,5 @@
-use Rattle.clock_strides.specs.Spending.{spend-needs}
-use Rattle.clock_strides.specs.Putting.{stride-spent, turn-looked, turn-made, known-pick}
+use Rattle.clock_spends.specs.Spending.{spend-needs}
+use Rattle.clock_strides.specs.TurnsOn.{stride-spent, turn-looked, turn-made, known-pick}
 use mathlib.Core.Bool.{true≢false, false≢true}
 use native.Mathlib.Omega.{arith}
 use borrow.Author.Needs.{needs}

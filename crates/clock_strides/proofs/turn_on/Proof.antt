@@ -1,4 +1,4 @@
-use Rattle.clock_strides.specs.Putting.{stride-put}
+use Rattle.clock_strides.specs.TurnsOn.{stride-put}
 use mathlib.Core.Path.{_∙_}
 use borrow.Author.Needs.{needs}
 use Rattle.clock_strides.proofs.turn_on.Statement.{statement}

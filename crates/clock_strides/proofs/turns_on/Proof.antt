@@ -1,4 +1,4 @@
-use Rattle.clock_strides.specs.Putting.{RestOn, rest-last, rest-more}
+use Rattle.clock_strides.specs.TurnsOn.{RestOn, rest-last, rest-more}
 use Rattle.clock_marks.specs.Marks.{runIn}
 use Prim.Native.Nat.{_-_}
 use mathlib.Core.Path.{refl, sym, _∙_}

@@ -3,16 +3,16 @@ use Prim.Native.Nat.{_<_}
 use mathlib.Core.Path.{sym, subst, _∙_}
 use mathlib.Core.Logic.{inl, inr}
 use borrow.Author.Needs.{needs}
-use Rattle.board_rules.proofs.Board.use_within.Reads as use-within-reads
+use Rattle.board_sures.proofs.use_within.Reads as use-within-reads
 use Rattle.board_seats.proofs.figure.Reads as figure-reads
 use Rattle.clock_lines.proofs.tell.Reads as tell-reads
 use Rattle.clock_picks.proofs.over.Reads as over-reads
-use Rattle.clock_works.specs.Making.{made-length}
-use Rattle.clock_works.specs.Using.{going-marked-any, going-vcpu, use-room, within-result, UsedOne, used-one}
+use Rattle.clock_uses.specs.Making.{made-length}
+use Rattle.clock_uses.specs.Using.{going-marked-any, going-vcpu, use-room, within-result, UsedOne, used-one}
 use Rattle.clock_works.specs.Worked.{work-uses, use-fits, over-fits, free-fits, work-frees, more-fits, work-hands, work-result}
-use Rattle.clock_works.proofs.freeing.Reads as freeing-reads
+use Rattle.clock_frees.proofs.freeing.Reads as freeing-reads
 use Rattle.clock_works.proofs.one_more.Reads as one-more-reads
-use Rattle.clock_works.proofs.use_one.Reads as use-one-reads
+use Rattle.clock_uses.proofs.use_one.Reads as use-one-reads
 use Rattle.clock_works.proofs.work.Reads as reads
 use Rattle.clock_works.proofs.work.Lts as lts
 use Rattle.clock_works.proofs.work.Statement.{statement}

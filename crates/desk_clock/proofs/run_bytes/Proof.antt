@@ -1,6 +1,6 @@
 -- `run_bytes` meets its contract.
 use borrow.Author.Needs.{needs}
-use Rattle.desk_clock.specs.Ran.{ran-large, ran-read}
+use Rattle.desk_runs.specs.Ran.{ran-large, ran-read}
 use Rattle.desk_clock.proofs.run_bytes.Statement.{statement}
 use Rattle.desk_clock.proofs.run_bytes.Tie as tie
 

@@ -1,6 +1,6 @@
 -- `run_or` meets its contract.
 use borrow.Author.Needs.{needs}
-use Rattle.desk_clock.specs.Ran.{ran-accepted, ran-refused}
+use Rattle.desk_runs.specs.Ran.{ran-accepted, ran-refused}
 use Rattle.desk_clock.proofs.run_or.Statement.{statement}
 use Rattle.desk_clock.proofs.run_or.Tie as tie
 

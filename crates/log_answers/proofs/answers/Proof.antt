@@ -10,7 +10,7 @@ use Rattle.plan.specs.Limits.{lf}
 use Rattle.listing.specs.Listing.{line}
 use Rattle.board_rules.specs.declared.Board.{Board}
 use Rattle.board_rules.specs.View.{factsIn}
-use Rattle.board_rules.specs.Events.{answerFields, repliesTo}
+use Rattle.board_events.specs.Events.{answerFields, repliesTo}
 use Rattle.board_rules.specs.Settle.{Marked}
 use Rattle.log_replies.specs.Parts.{endText}
 use Rattle.log_answers.specs.Stays.{line-stays, marked-by}

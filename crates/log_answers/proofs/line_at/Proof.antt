@@ -4,7 +4,7 @@ use native.Mathlib.Omega.{arith}
 use lib.ListN.{take}
 use Rattle.listing.specs.Listing.{line}
 use Rattle.text_letters.specs.WroteLaws.{joins, both-wrote}
-use Rattle.board_rules.specs.Events.{answerFields}
+use Rattle.board_events.specs.Events.{answerFields}
 use Rattle.log_answers.specs.LoopLaws.{start-fits, wrote-start}
 use Rattle.log_answers.proofs.line_at.Statement.{statement}
 use Rattle.log_answers.proofs.line_at.Tie as tie

@@ -4,7 +4,7 @@ use Prim.Native.Nat.{ℕ}
 use mathlib.Core.Path.{ap, sym}
 use Rattle.plan.specs.declared.Kind.{Kind}
 use Rattle.plan.specs.Line.{shape, size, numsOf}
-use Rattle.board_rules.specs.Events.{eventOf}
+use Rattle.board_events.specs.Events.{eventOf}
 use Rattle.log_lines.specs.Told.{Told, toldOf}
 use Rattle.log_lines.proofs.event_in.Statement.{statement}
 use Rattle.log_lines.proofs.event_in.Tie as tie

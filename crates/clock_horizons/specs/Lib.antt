@@ -1,0 +1,3 @@
+pub mod Horizon
+pub mod HorizonLaws
+pub mod SameLaws

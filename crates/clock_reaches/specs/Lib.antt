@@ -1,0 +1,3 @@
+pub mod Stretches
+pub mod Reaches
+pub mod Bounds

@@ -1,0 +1,4 @@
+pub mod Topping
+pub mod TopLaws
+pub mod WalkLaws
+pub mod MadeLaws
