@@ -1,7 +1,7 @@
 -- Laws of look-ups that are 0 out of range, and of the seats of a VCPU.
 use Prim.Native.Nat.{ℕ, _≤_}
-use mathlib.Core.Path.{_≡_, refl, sym, _∙_}
-use mathlib.Core.Bool.{Bool, true, false, _&&_}
+use mathlib.Core.Path.{_≡_, refl, sym, ap, _∙_}
+use mathlib.Core.Bool.{Bool, true, false, _&&_, not}
 use mathlib.Core.List.{List}
 use native.Mathlib.Omega.{arith}
 use lib.Dec.{eqb}
@@ -10,7 +10,7 @@ use borrow.Author.Tests.{ne-eqb}
 use Rattle.laws.specs.Choice.{when}
 use Rattle.laws.specs.BoolLaws.{both-left, both-right}
 use Rattle.plan.specs.RuleLaws.{in-range}
-use Rattle.board_seats.specs.Seats.{isV, isN}
+use Rattle.board_seats.specs.Seats.{isV, isN, isLocal, waitAt, localWaiter}
 
 -- a look-up in range, and out of range: t is the test's flag
 pub when-yes : {t c : Bool} {x r : ℕ} → t ≡ c → t ≡ true → r ≡ x → r ≡ when c x
@@ -50,3 +50,11 @@ local-test v c x = go (isV v) refl
     go : (t : Bool) → isV v ≡ t → (t && eqb (when c x) v) ≡ ((t && c) && eqb x v)
     go true e = when-test (λ y. eqb y v) c x (ne-eqb 0 v (λ z. let h = in-range v 1 16 e in omega arith))
     go false e = refl
+
+-- a task that waits for nothing is no local waiter; of another one its mutex decides
+module _ (t ws : List ℕ) (v n : ℕ) where
+  pub waits-not : waitAt ws v n ≡ 0 → false ≡ localWaiter t ws v n
+  waits-not e = ap (λ w. not (eqb w 0) && isLocal t v w) (sym e)
+
+  pub waits-local : {w : ℕ} {r : Bool} → w ≡ waitAt ws v n → eqb w 0 ≡ false → r ≡ isLocal t v w → r ≡ localWaiter t ws v n
+  waits-local {w} e z q = q ∙ ap (λ b. not b && isLocal t v w) (sym z) ∙ ap (λ x. not (eqb x 0) && isLocal t v x) e

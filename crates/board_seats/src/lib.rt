@@ -217,5 +217,8 @@ pub fn local_waiter(view: &[u64], a: &[u8], v: u64, n: u64) -> bool
     ensures { λ r. ⌜ r ≡ localWaiter (now (view .entry)) (now (a .entry)) v n ⌝ }
 {
     let w = wait(a, v, n);
-    both(no(w == 0), is_local(view, v, w))
+    if w == 0 {
+        return false;
+    }
+    is_local(view, v, w)
 }

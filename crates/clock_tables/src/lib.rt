@@ -106,6 +106,17 @@ fn is_horizon(h: u64) -> bool
     within(h, 1, 1000000)
 }
 
+// The run to horizon h of tables that an accepted plan gives: 3 first.
+pub fn run_to(r: PlanRecord, vt: &[u64], mt: &[u64], ot: &[u64], ts: &[u64], h: u64) -> RunAnswer
+    requires { ⌜ isGiven r (lent (now vt) (now mt) (now ot) (now ts)) ≡ true ⌝ }
+    ensures { λ a. ⌜ a ≡ runFor r (lent (now (vt .entry)) (now (mt .entry)) (now (ot .entry)) (now (ts .entry))) h ⌝ }
+{
+    if !is_horizon(h) {
+        return RunAnswer::NoRun(Refusal::Range);
+    }
+    run_in(r, vt, mt, ot, ts, h)
+}
+
 // The run to horizon h of the plan in lent tables: 9 first, then 3.
 pub fn run_of(r: PlanRecord, vt: &[u64], mt: &[u64], ot: &[u64], ts: &[u64], h: u64) -> RunAnswer
     ensures { λ a. ⌜ a ≡ runFor r (lent (now (vt .entry)) (now (mt .entry)) (now (ot .entry)) (now (ts .entry))) h ⌝ }
@@ -113,8 +124,5 @@ pub fn run_of(r: PlanRecord, vt: &[u64], mt: &[u64], ot: &[u64], ts: &[u64], h: 
     if !given_test::is_given(r, vt, mt, ot, ts) {
         return RunAnswer::NoRun(Refusal::Foreign);
     }
-    if !is_horizon(h) {
-        return RunAnswer::NoRun(Refusal::Range);
-    }
-    run_in(r, vt, mt, ot, ts, h)
+    run_to(r, vt, mt, ot, ts, h)
 }

@@ -4,14 +4,16 @@ use plan::Refusal;
 use read_answer::PlanAnswer;
 ghost use mathlib.Core.Path.{_≡_};
 ghost use Rattle.plan_tables.specs.Layout.{lent};
+ghost use Rattle.records_read.specs.Lies.{Sure};
 ghost use Rattle.desk_runs.specs.Ran.{runOr, runBytes};
 
 // The run to horizon h of an accepted plan in tables; for a refused one its number.
 fn run_or(a: PlanAnswer, vt: &[u64], mt: &[u64], ot: &[u64], ts: &[u64], h: u64) -> RunAnswer
+    requires { ⌜ Sure a (lent (now vt) (now mt) (now ot) (now ts)) ⌝ }
     ensures { λ x. ⌜ x ≡ runOr a (lent (now (vt .entry)) (now (mt .entry)) (now (ot .entry)) (now (ts .entry))) h ⌝ }
 {
     match a {
-        PlanAnswer::Accepted(r) => clock_tables::run_of(r, vt, mt, ot, ts, h),
+        PlanAnswer::Accepted(r) => clock_tables::run_to(r, vt, mt, ot, ts, h),
         PlanAnswer::Refused { number, line: _ } => RunAnswer::NoRun(number),
     }
 }

@@ -1,11 +1,17 @@
 -- `run_bytes` meets its contract.
 use borrow.Author.Needs.{needs}
+use Rattle.records_read.specs.Lies.{left-sure}
 use Rattle.desk_runs.specs.Ran.{ran-large, ran-read}
 use Rattle.desk_clock.proofs.run_bytes.Statement.{statement}
 use Rattle.desk_clock.proofs.run_bytes.Tie as tie
 
 returns : tie.Need-returns
 returns c = ran-large _ _ (c .before .too-large .ensures) (c .if1 .taken)
+
+run-or-requires : tie.Need-run-or-requires
+run-or-requires c κs =
+    let e = c .before .before .before .before .before .before .before .before .read-rows .ensures in
+    left-sure _ (record { vcpus = search needs; mutexes = search needs; opens = search needs; tasks = search needs }) (e .0) (e .1 .0) (e .1 .1 .0) (e .1 .1 .1 .0) (e .1 .1 .1 .1)
 
 returns-2 : tie.Need-returns-2
 returns-2 c =
@@ -30,5 +36,5 @@ run-bytes-spec =
     (λ c. search needs)
     (λ c. search needs)
     (λ c. search needs)
-    (λ c κs. search needs)
+    run-or-requires
     returns-2)
