@@ -103,8 +103,8 @@ int main(int argc, char **argv) {
     read_file(argv[4], &answers);
     read_file(argv[5], &missing);
 
-    static const struct bytes none = {.size = 0}, shape = {.at = "refused\t1\t1\n", .size = 12},
-                              room = {.at = "refused\t8\t0\n", .size = 12};
+    static const struct bytes none = {.size = 0}, shape = {.at = "refused\t1\t1\t0\n", .size = 14},
+                              room = {.at = "refused\t8\t0\t0\n", .size = 14};
     large.size = 65537;
     int ok = all_sizes(&plan, NULL, &listing) && all_sizes(&plan, &events, &answers) && all_sizes(&none, NULL, &shape) &&
              all_sizes(&none, &events, &shape) && all_sizes(&plan, &none, &none) && all_sizes(&large, NULL, &room) &&

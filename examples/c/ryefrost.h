@@ -2,7 +2,8 @@
  *
  * The first two write the text that a program prints into `out` and return its size in bytes. With too little room they
  * return -8 and leave `out` as it was. No input is too strange: a refused plan is a text too, `refused`, its number, its
- * line. The third writes no text, and returns how a run ends.
+ * line and the field of that line (the word is field 1; 0 where the line is refused whole, and for a size). The third
+ * writes no text, and returns how a run ends, or minus the number alone.
  * `out` and `missed` share no byte with the inputs. A pointer is never null, even where its size is 0. */
 #ifndef RYEFROST_H
 #define RYEFROST_H

@@ -288,7 +288,7 @@ pub fn horizon(input: &[u8]) -> Result<u64, u32> {
         Some((word, rest)) if *word == b"horizon" => rest,
         _ => return Err(SHAPE),
     };
-    let [h] = numbers::<1>(numbers_of)?;
+    let [h] = numbers::<1>(numbers_of).map_err(|fault| fault.number)?;
     if (1..=TICKS).contains(&h) {
         Ok(h)
     } else {

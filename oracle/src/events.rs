@@ -2,24 +2,26 @@
 
 use crate::board::{Board, Event, Reply};
 use crate::limits::INPUT_BYTES;
-use crate::reading::{cut_line, numbers, read, SHAPE};
+use crate::reading::{cut_line, numbers, read, whole, SHAPE};
 use crate::verdict::{refused, TOO_LONG};
 
 const EMPTY: &[u8] = &[];
 
-/// An event line without its LF: 1 for word or field count, then 2 for a number's form.
+/// An event line without its LF: 1 for word or field count, then 2 for a number's form. An event's
+/// refusal is the number alone.
 pub fn event(line: &[u8]) -> Result<Event, u32> {
     let fields: Vec<&[u8]> = line.split(|b| *b == b'\t').collect();
     let (word, rest) = fields.split_first().ok_or(SHAPE)?;
     let word: &[u8] = word;
-    match word {
+    let event = match word {
         b"ask" => numbers::<3>(rest).map(|[v, n, m]| Event::Ask { v, n, m }),
         b"free" => numbers::<3>(rest).map(|[v, n, m]| Event::Free { v, n, m }),
         b"use" => numbers::<2>(rest).map(|[v, t]| Event::Use { v, t }),
         b"top" => numbers::<1>(rest).map(|[v]| Event::Top { v }),
         b"show" => numbers::<2>(rest).map(|[v, n]| Event::Show { v, n }),
-        _ => Err(SHAPE),
-    }
+        _ => Err(whole(SHAPE)),
+    };
+    event.map_err(|fault| fault.number)
 }
 
 /// An event as `board` reads it, without its LF.

@@ -13,7 +13,7 @@ pub use runs::{clock_case, clock_plan, run_case, ClockCase, RunCase};
 use crate::plan::Plan;
 
 /// The kinds of plan cases: name, weight in the default mix, what it holds.
-pub const KINDS: [(&str, u64, &str); 29] = [
+pub const KINDS: [(&str, u64, &str); 30] = [
     ("minimal", 2, "one VCPU, one task, small numbers"),
     ("mixed", 8, "any sizes, owners of VCPUs in any pattern"),
     (
@@ -48,6 +48,11 @@ pub const KINDS: [(&str, u64, &str); 29] = [
         "sameline",
         7,
         "two faults in one line, the lower number decides",
+    ),
+    (
+        "fields",
+        8,
+        "a fault in any field, often several of one number in a line",
     ),
     ("twolines", 4, "two faults in two lines"),
     (

@@ -1,5 +1,5 @@
 //! An independent reference for the plans, the verdict and the lock board of document 01, and for the
-//! clock of document 02.
+//! clock and a refusal's field of document 02.
 #![forbid(unsafe_code)]
 
 pub mod board;

@@ -8,7 +8,8 @@ use crate::clock::Step;
 use crate::figures::{global_sections, wait_demand, wait_start};
 use crate::limits::{INPUT_BYTES, LOCKS};
 use crate::plan::{Overrun, Plan, Policy};
-use crate::reading::read;
+use crate::reading::{read, Refusal};
+use crate::verdict::TOO_LONG;
 
 /// A row of this many rounds counts as long.
 pub const LONG: u64 = 1000;
@@ -17,8 +18,9 @@ pub const LONG: u64 = 1000;
 pub struct Tally {
     /// Plans accepted.
     pub accepted: u64,
-    /// Plans refused, by number.
+    /// Plans refused, by number, and by number and field.
     pub refused: BTreeMap<u64, u64>,
+    pub fields: BTreeMap<(u64, u64), u64>,
     /// Accepted plans by the letters of their policy.
     pub policies: BTreeMap<&'static str, u64>,
     /// Accepted plans whose tasks do not stand in the order of the listing.
@@ -100,6 +102,7 @@ impl Tally {
     pub fn add(&mut self, more: &Tally) {
         self.accepted += more.accepted;
         all_of(&mut self.refused, &more.refused);
+        all_of(&mut self.fields, &more.fields);
         all_of(&mut self.policies, &more.policies);
         self.interleaved += more.interleaved;
         self.crowded += more.crowded;
@@ -140,7 +143,7 @@ impl Tally {
     pub fn add_answers(&mut self, plan: &[u8], events: &[u8], answers: &[u8]) {
         self.lists += 1;
         if events.len() > INPUT_BYTES {
-            one_more(&mut self.refused, 8);
+            self.add_refusal(TOO_LONG);
             return;
         }
         if !self.add_plan(plan) {
@@ -172,7 +175,7 @@ impl Tally {
         };
         one_more(&mut self.runs, key);
         if horizon.len() > INPUT_BYTES {
-            one_more(&mut self.refused, 8);
+            self.add_refusal(TOO_LONG);
         } else {
             self.add_plan(plan);
         }
@@ -192,7 +195,7 @@ impl Tally {
     /// Is the plan accepted?
     fn add_plan(&mut self, plan: &[u8]) -> bool {
         if plan.len() > INPUT_BYTES {
-            one_more(&mut self.refused, 8);
+            self.add_refusal(TOO_LONG);
             return false;
         }
         match read(plan) {
@@ -202,10 +205,16 @@ impl Tally {
                 true
             }
             Err(refusal) => {
-                one_more(&mut self.refused, u64::from(refusal.number));
+                self.add_refusal(refusal);
                 false
             }
         }
+    }
+
+    fn add_refusal(&mut self, refusal: Refusal) {
+        let number = u64::from(refusal.number);
+        one_more(&mut self.refused, number);
+        one_more(&mut self.fields, (number, refusal.field));
     }
 
     fn add_accepted(&mut self, plan: &Plan) {
@@ -267,8 +276,14 @@ impl fmt::Display for Tally {
             .iter()
             .map(|(number, n)| (format!("by {}:", number), *n))
             .collect();
+        let by_field: BTreeMap<String, u64> = self
+            .fields
+            .iter()
+            .map(|((number, field), n)| (format!("{}:{}", number, field), *n))
+            .collect();
         writeln!(f, "  plans accepted: {}", self.accepted)?;
         writeln!(f, "  plans refused: {}", counted(&by_number))?;
+        writeln!(f, "  refused by number:field: {}", counted(&by_field))?;
         writeln!(
             f,
             "  policies of accepted plans: {}",

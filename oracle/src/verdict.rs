@@ -170,13 +170,22 @@ pub fn listing(plan: &Plan) -> Vec<u8> {
     out.into_bytes()
 }
 
-/// `refused` number line.
+/// `refused` number line field.
 pub fn refused(refusal: Refusal) -> Vec<u8> {
-    format!("refused\t{}\t{}\n", refusal.number, refusal.line).into_bytes()
+    let Refusal {
+        number,
+        line,
+        field,
+    } = refusal;
+    format!("refused\t{}\t{}\t{}\n", number, line, field).into_bytes()
 }
 
 /// The refusal of an input too long to be judged.
-pub const TOO_LONG: Refusal = Refusal { number: 8, line: 0 };
+pub const TOO_LONG: Refusal = Refusal {
+    number: 8,
+    line: 0,
+    field: 0,
+};
 
 /// Exactly what program `verdict` prints.
 pub fn verdict_text(input: &[u8]) -> Vec<u8> {

@@ -112,11 +112,11 @@ fn sizes_and_plans_go_first() {
     let good = text(&worked("D O"));
     let bad = [&good[..], b"x"].concat();
     let long = vec![b'\n'; 65_537];
-    assert_eq!(clock_text(&bad, &long), b"refused\t8\t0\n");
-    assert_eq!(clock_text(&long, b""), b"refused\t8\t0\n");
-    assert_eq!(clock_text(&bad, b""), b"refused\t1\t19\n");
-    assert_eq!(clock_text(&bad, b"horizon\t0\n"), b"refused\t1\t19\n");
-    assert_eq!(clock_text(b"", b"horizon\t5\n"), b"refused\t1\t1\n");
+    assert_eq!(clock_text(&bad, &long), b"refused\t8\t0\t0\n");
+    assert_eq!(clock_text(&long, b""), b"refused\t8\t0\t0\n");
+    assert_eq!(clock_text(&bad, b""), b"refused\t1\t19\t0\n");
+    assert_eq!(clock_text(&bad, b"horizon\t0\n"), b"refused\t1\t19\t0\n");
+    assert_eq!(clock_text(b"", b"horizon\t5\n"), b"refused\t1\t1\t0\n");
     assert_eq!(clock_text(&good, &long[..65_536]), b"refused\t1\n");
     assert_eq!(clock_text(&good, b"horizon\t\n"), b"refused\t2\n");
     assert_eq!(clock_text(&good, b"horizon\t0\n"), b"refused\t3\n");

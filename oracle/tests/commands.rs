@@ -46,9 +46,13 @@ fn place(name: &str) -> PathBuf {
 fn verdict_and_reading() {
     let plan = text(&worked("D O"));
     assert_eq!(printed(&["verdict"], &plan), verdict_text(&plan));
-    assert_eq!(printed(&["verdict"], b""), b"refused\t1\t1\n");
-    assert_eq!(printed(&["verdict"], &[b'x'; 70_000]), b"refused\t8\t0\n");
-    assert_eq!(printed(&["reading"], &[b'x'; 70_000]), b"refused\t1\t1\n");
+    assert_eq!(printed(&["verdict"], b""), b"refused\t1\t1\t0\n");
+    let long = [b'x'; 70_000];
+    assert_eq!(printed(&["verdict"], &long), b"refused\t8\t0\t0\n");
+    assert_eq!(printed(&["reading"], &long), b"refused\t1\t1\t0\n");
+    let bad = text(&worked("D O").replace("vcpu 2 2 0 2 10", "vcpu 2 2 0 11 10"));
+    assert_eq!(printed(&["verdict"], &bad), b"refused\t3\t4\t5\n");
+    assert_eq!(printed(&["reading"], &bad), b"refused\t3\t4\t5\n");
     let expected = "accepted/policy D O/vcpu 1 1 0 3 20/vcpu 2 2 0 2 10/mutex 1 G/open 1 1/\
                     open 1 2/task 1 1 1 100 2 1 1 1 2/task 2 2 1 50 1 1 1 2 1/";
     assert_eq!(printed(&["reading"], &plan), text(expected));
@@ -59,13 +63,14 @@ fn board_reads_the_plan_file() {
     let dir = place("board");
     let file = dir.join("plan.tsv");
     let name = file.to_string_lossy().into_owned();
-    assert_eq!(printed(&["board", &name], b"top\t1\n"), b"refused\t1\t1\n");
+    let absent = printed(&["board", &name], b"top\t1\n");
+    assert_eq!(absent, b"refused\t1\t1\t0\n");
     let plan = text(&worked("D O"));
     std::fs::write(&file, &plan).expect("written");
     assert_eq!(printed(&["board", &name], b"top\t1\n"), b"left\t3\t1\n");
     assert_eq!(
         printed(&["board", &name], &[b'\n'; 65_537]),
-        b"refused\t8\t0\n"
+        b"refused\t8\t0\t0\n"
     );
 }
 
@@ -74,13 +79,13 @@ fn clock_reads_the_plan_file() {
     let dir = place("clock");
     let name = dir.join("plan.tsv").to_string_lossy().into_owned();
     let line = b"horizon\t30\n";
-    assert_eq!(printed(&["clock", &name], line), b"refused\t1\t1\n");
+    assert_eq!(printed(&["clock", &name], line), b"refused\t1\t1\t0\n");
     let plan = text(&worked("D O"));
     std::fs::write(&name, &plan).expect("written");
     assert_eq!(printed(&["clock", &name], line), clock_text(&plan, line));
     assert_eq!(printed(&["clock", &name], b""), b"refused\t1\n");
     let long = [b'\n'; 65_537];
-    assert_eq!(printed(&["clock", &name], &long), b"refused\t8\t0\n");
+    assert_eq!(printed(&["clock", &name], &long), b"refused\t8\t0\t0\n");
     for index in 0..40 {
         let case = clock_case(5, index);
         let at = dir.to_string_lossy().into_owned();
@@ -177,6 +182,50 @@ fn compare_finds_one_wrong_line_of_a_run() {
     // What is wanted by hand counts as well.
     std::fs::write(case.join("want.tsv"), b"end\t3\n").expect("written");
     assert_eq!(compared(&run).1, Some(1));
+}
+
+#[test]
+fn compare_wants_the_field_of_a_refusal() {
+    let dir = place("wanted");
+    let oracle = env!("CARGO_BIN_EXE_oracle");
+    let save = dir.join("save").to_string_lossy().into_owned();
+    let cases = dir.join("plans");
+    std::fs::create_dir_all(&cases).expect("a directory");
+    let good = worked("P N");
+    let bad = good.replace("open 1 2", "open 1 3");
+    for (file, spaced) in [("good.tsv", good), ("bad.tsv", bad)] {
+        std::fs::write(cases.join(file), text(&spaced)).expect("written");
+    }
+    let folder = cases.to_string_lossy().into_owned();
+    let run = ["plans", &folder, &save, oracle, "verdict"];
+    for (refused, status) in [
+        ("refused 5 7 3", 0),
+        ("refused 5 7 2", 1),
+        ("refused 5 7", 2),
+        ("refused 5 7 3 0", 2),
+    ] {
+        let want = format!("good accepted/bad {}/", refused);
+        std::fs::write(cases.join("want.tsv"), text(&want)).expect("written");
+        let (out, ended) = compared(&run);
+        assert_eq!(ended, Some(status), "{}: {}", refused, out);
+        if status == 0 {
+            assert!(
+                out.contains("  refused by number:field: 5:3 1\n"),
+                "{}",
+                out
+            );
+        }
+    }
+    // A program that says another field differs.
+    let want = b"good\taccepted\nbad\trefused\t5\t7\t3\n";
+    std::fs::write(cases.join("want.tsv"), want).expect("written");
+    let wrong = format!(
+        "'{}' verdict | sed 's/^refused.*/refused\\t5\\t7\\t2/'",
+        oracle
+    );
+    let (out, ended) = compared(&["plans", &folder, &save, "sh", "-c", &wrong]);
+    assert_eq!(ended, Some(1));
+    assert!(out.contains("2 cases compared, 1 differ\n"), "{}", out);
 }
 
 #[test]

@@ -4,7 +4,7 @@ mod common;
 
 use std::collections::BTreeMap;
 
-use common::ANSWERS;
+use common::{mark, ANSWERS};
 use oracle::clock::{clock_text, clock_text_of};
 use oracle::events::board_text;
 use oracle::frames;
@@ -154,6 +154,150 @@ fn every_refusal_at_every_kind_of_line() {
             assert!(count > 3, "{} at {:?}: {}", number, word, count);
         }
     }
+}
+
+/// A number as it is to be written.
+fn written(field: &str) -> Option<u64> {
+    let number: u64 = field.parse().ok()?;
+    (number.to_string() == field && field.len() <= 7).then_some(number)
+}
+
+/// The fields of a line that have a fault of this number, told from it and the lines above.
+fn faulty(number: u32, above: &[Vec<String>], line: &[String]) -> Vec<u64> {
+    let word = line[0].as_str();
+    let places: &[u64] = match (word, line.get(2).map_or("", |f| f.as_str())) {
+        ("vcpu", _) => &[2, 3, 4, 5, 6],
+        ("task", _) => &[2, 3, 4],
+        ("mutex", "L") => &[2, 4],
+        ("open" | "lock", _) => &[2, 3],
+        _ => &[2],
+    };
+    let at = |field: u64| line[field as usize - 1].as_str();
+    let value = |field: u64| written(at(field)).unwrap_or(0);
+    let stands = |fields: &[(u64, &str)]| {
+        above.iter().any(|other| {
+            let same = |(f, x): &(u64, &str)| other.get(*f as usize - 1).map_or(false, |y| y == x);
+            fields.iter().all(same)
+        })
+    };
+    let bad = |field: u64| match number {
+        2 => written(at(field)).is_none(),
+        3 => {
+            let (low, high) = match (word, field) {
+                ("vcpu" | "task", 2) | ("mutex", 4) => (1, 16),
+                ("vcpu" | "open", 3) | ("guest", 2) => (1, 4),
+                ("vcpu", 4) => (0, 3),
+                ("vcpu", 5) => (1, value(6)),
+                ("vcpu", 6) | ("task", 4) | ("lock", 3) => (1, 1_000_000),
+                ("mutex" | "open" | "lock", 2) => (1, 32),
+                ("task", 3) => (1, 8),
+                _ => (0, 1_000_000),
+            };
+            value(field) < low || value(field) > high
+        }
+        5 => match (word, field) {
+            ("task", 2) | ("mutex", 4) => !stands(&[(1, "vcpu"), (2, at(field))]),
+            ("guest", 2) | ("open", 3) => !stands(&[(1, "vcpu"), (3, at(field))]),
+            ("open", 2) => !stands(&[(1, "mutex"), (2, at(2)), (3, "G")]),
+            ("lock", 2) => !stands(&[(1, "mutex"), (2, at(2))]),
+            _ => false,
+        },
+        6 => field == 2,
+        _ => false,
+    };
+    places.iter().copied().filter(|field| bad(*field)).collect()
+}
+
+/// Counts by number, kind of line and field.
+type ByField = BTreeMap<(u32, String, u64), u64>;
+
+/// All cases of a seed that the programs judge: how often each refusal comes with each field, and how often
+/// with more than one field of that fault. The field is always the first of them.
+fn by_field(seed: u64, count: u64) -> (ByField, ByField) {
+    let (mut seen, mut several) = (BTreeMap::new(), BTreeMap::new());
+    for index in 0..count {
+        let bytes = plan_case(seed, index);
+        let refusal = match read(&bytes) {
+            Err(refusal) if bytes.len() <= INPUT_BYTES => refusal,
+            _ => continue,
+        };
+        let text = String::from_utf8_lossy(&bytes);
+        let mut lines: Vec<Vec<String>> = text
+            .split('\n')
+            .take(refusal.line as usize)
+            .map(|line| line.split('\t').map(|f| f.to_string()).collect())
+            .collect();
+        let line = lines.pop().unwrap_or_default();
+        let fields = faulty(refusal.number, &lines, &line);
+        let first = fields.first().copied().unwrap_or(0);
+        assert_eq!(refusal.field, first, "seed {} index {}", seed, index);
+        let kind = match refusal.number {
+            1 => String::new(),
+            _ => record(&bytes, refusal.line),
+        };
+        let key = (refusal.number, kind, first);
+        if fields.len() > 1 {
+            *several.entry(key.clone()).or_insert(0) += 1;
+        }
+        *seen.entry(key).or_insert(0) += 1;
+    }
+    (seen, several)
+}
+
+#[test]
+fn every_refusal_with_every_field() {
+    // Kinds of lines, each with the fields it can be refused for.
+    type Kind = (&'static str, &'static [u64]);
+    let any: [Kind; 8] = [
+        ("vcpu", &[2, 3, 4, 5, 6]),
+        ("mutex G", &[2]),
+        ("mutex L", &[2, 4]),
+        ("open", &[2, 3]),
+        ("guest", &[2]),
+        ("task", &[2, 3, 4]),
+        ("run", &[2]),
+        ("lock", &[2, 3]),
+    ];
+    let missing: [Kind; 5] = [
+        ("mutex L", &[4]),
+        ("open", &[2, 3]),
+        ("guest", &[2]),
+        ("task", &[2]),
+        ("lock", &[2]),
+    ];
+    let outside: [Kind; 2] = [("task", &[2]), ("lock", &[2])];
+    let rising = ["vcpu", "mutex G", "mutex L", "open", "guest", "task"];
+    let rising = rising.map(|kind| (kind, &[0][..]));
+    let crowded: [Kind; 2] = [("task", &[0]), ("lock", &[0])];
+    let expected: [(u32, &[Kind]); 7] = [
+        (1, &[("", &[0])]),
+        (2, &any),
+        (3, &any),
+        (4, &rising),
+        (5, &missing),
+        (6, &outside),
+        (7, &crowded),
+    ];
+    let (mut seen, mut several) = by_field(31, 50_000);
+    for (number, kinds) in expected {
+        for (kind, fields) in kinds {
+            for field in *fields {
+                let key = (number, kind.to_string(), *field);
+                let count = seen.remove(&key).unwrap_or(0);
+                assert!(count > 25, "{:?}: {}", key, count);
+                // In more than one field: of Missing, the mutex and the guest of an `open`.
+                let more = match number {
+                    2 | 3 => fields.last() != Some(field),
+                    5 => key.1 == "open" && *field == 2,
+                    _ => false,
+                };
+                let count = several.remove(&key).unwrap_or(0);
+                assert_eq!(count > 5, more, "{:?}: {}", key, count);
+            }
+        }
+    }
+    assert!(seen.is_empty(), "{:?}", seen);
+    assert!(several.is_empty(), "{:?}", several);
 }
 
 #[test]
@@ -384,12 +528,19 @@ fn a_tally_counts_what_it_is_given() {
     let mut one = Tally::default();
     one.add_listing(&plan, &verdict_text(&plan));
     one.add_listing(b"", &verdict_text(b""));
-    one.add_listing(&[b'x'; 65_537], b"refused\t8\t0\n");
+    one.add_listing(&[b'x'; 65_537], b"refused\t8\t0\t0\n");
+    let bad = common::text("plan 1/policy P O/vcpu 1 1 0 1 x/");
+    one.add_listing(&bad, &verdict_text(&bad));
     let mut tally = Tally::default();
     tally.add(&one);
     tally.add(&one);
     assert_eq!((tally.accepted, tally.most_rounds, tally.long), (2, 4, 0));
-    assert_eq!(tally.refused, BTreeMap::from([(1, 2), (8, 2)]));
+    assert_eq!(tally.refused, BTreeMap::from([(1, 2), (2, 2), (8, 2)]));
+    let fields = BTreeMap::from([((1, 0), 2), ((2, 6), 2), ((8, 0), 2)]);
+    assert_eq!(tally.fields, fields);
+    let shown = tally.to_string();
+    let wanted = "  plans refused: by 1: 2, by 2: 2, by 8: 2\n  refused by number:field: 1:0 2, 2:6 2, 8:0 2\n";
+    assert!(shown.contains(wanted), "{}", shown);
     assert_eq!(tally.policies, BTreeMap::from([("P O", 2)]));
     let rows: BTreeMap<&str, u64> = tally.rows.iter().map(|(k, n)| (k.as_str(), *n)).collect();
     assert_eq!(
@@ -398,10 +549,11 @@ fn a_tally_counts_what_it_is_given() {
     );
     let mut board = Tally::default();
     board.add_answers(&plan, b"top\t1\n", b"left\t3\t1\n");
-    board.add_answers(&plan, &[b'\n'; 65_537], b"refused\t8\t0\n");
-    board.add_answers(b"", b"top\t1\n", b"refused\t1\t1\n");
+    board.add_answers(&plan, &[b'\n'; 65_537], b"refused\t8\t0\t0\n");
+    board.add_answers(b"", b"top\t1\n", b"refused\t1\t1\t0\n");
     assert_eq!((board.lists, board.accepted), (3, 1));
     assert_eq!(board.refused, BTreeMap::from([(1, 1), (8, 1)]));
+    assert_eq!(board.fields, BTreeMap::from([((1, 0), 1), ((8, 0), 1)]));
     assert_eq!(board.answers, BTreeMap::from([("left".to_string(), 1)]));
 
     let mut clock = Tally::default();
@@ -432,13 +584,6 @@ fn a_tally_counts_what_it_is_given() {
     );
 }
 
-/// FNV-1a over everything given.
-fn mark(parts: impl Iterator<Item = Vec<u8>>) -> u64 {
-    parts.flatten().fold(0xcbf2_9ce4_8422_2325, |h, b| {
-        (h ^ u64::from(b)).wrapping_mul(0x0000_0100_0000_01b3)
-    })
-}
-
 #[test]
 fn the_same_seed_gives_the_same_cases_for_ever() {
     let every_kind = KINDS
@@ -455,7 +600,7 @@ fn the_same_seed_gives_the_same_cases_for_ever() {
     }));
     assert_eq!(
         (plans, events),
-        (5_770_797_171_161_140_698, 4_040_754_978_698_668_373)
+        (10_173_691_636_704_000_215, 4_040_754_978_698_668_373)
     );
     assert_eq!(horizons, 3_362_016_028_732_430_306);
     assert_ne!(plan_case(7, 1), plan_case(8, 1));

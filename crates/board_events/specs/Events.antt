@@ -9,10 +9,10 @@ use Rattle.laws.specs.Sums.{flat}
 use Rattle.laws.specs.Bytes.{pieces, isNil}
 use Rattle.laws.specs.Decimal.{decimal}
 use Rattle.plan.specs.Limits.{maxInput, lf}
-use Rattle.plan.specs.declared.Refusal.the-variants.{Shape, Number, Room}
+use Rattle.plan.specs.declared.Refusal.the-variants.{Shape, Number}
 use Rattle.plan.specs.declared.Kind.{Kind}
 use Rattle.plan.specs.declared.Kind.the-variants.{PlanLine, PolicyPO, PolicyPN, PolicyDO, PolicyDN, VcpuLine, MutexG, MutexL, OpenLine, GuestLine, TaskLine, RunLine, LockLine, EndLine, AskLine, FreeLine, UseLine, TopLine, ShowLine}
-use Rattle.plan.specs.Refusals.{numberOf}
+use Rattle.plan.specs.Refusals.{numberOf, noRoom}
 use Rattle.plan.specs.Line.{Item, shape, written, itemOf, wShow}
 use Rattle.plan.specs.Rules.{nth}
 use Rattle.plan.specs.Reading.{Reading, Accepts, Refuses, reading}
@@ -138,10 +138,10 @@ abbrev pub repliesTo : Facts → Board → List ℕ → List ℕ
 repliesTo F b es = answersText (lineAnswers F b (pieces lf es))
 
 abbrev pub eventsText : Reading → List ℕ → List ℕ
-eventsText (Refuses r l) es = refusedLine r l
+eventsText (Refuses c) es = refusedLine c
 eventsText (Accepts p) es = repliesTo (factsOf (system p)) (fresh (factsOf (system p))) es
 
 -- "Either input above 65,536 bytes, and after that a bad plan, ends it as in `verdict`, before any event is answered"
 unfoldable pub boardText : List ℕ → List ℕ → List ℕ
 boardText s es =
-    elim (ltb maxInput (length s) || ltb maxInput (length es)) [ true ↦ refusedLine Room 0 | false ↦ eventsText (reading s) es ]
+    elim (ltb maxInput (length s) || ltb maxInput (length es)) [ true ↦ refusedLine noRoom | false ↦ eventsText (reading s) es ]

@@ -21,7 +21,7 @@ use Rattle.plan.specs.Refusals.{numberOf, unless}
 use Rattle.plan.specs.declared.Lock.{Lock}
 use Rattle.plan.specs.Plan.{Vcpu, Task, Plan, Global, tasksOf}
 use Rattle.plan.specs.Lookup.{hasVcpu, isVcpuOf, hasGuest, hasMutex, global, localTo, opened}
-use Rattle.plan.specs.Line.{shape, hasShape, numbers, fieldsOf, kindIn, itemOf, lineOf, written}
+use Rattle.plan.specs.Line.{shape, hasShape, numberAt, numbers, fieldsOf, kindIn, itemOf, lineOf, written}
 use Rattle.plan.specs.Text.{text, vcpuItems, mutexItems, openItems, lockItems, taskItems, sectionItems, itemsOf, linesOf, textOf}
 use Rattle.plan.specs.Rules.{phase, follows, vcpuFits, rule, testsOf, learn}
 use Rattle.plan.specs.Reading.{Reading, Accepts, reading, readingBy, fault, judge}
@@ -198,5 +198,5 @@ pub k1-to-k12 :
           ∷ 102 ∷ 114 ∷ 101 ∷ 101 ∷ 100 ∷ 9 ∷ 50 ∷ 9 ∷ 49 ∷ 10
           ∷ [];
     })
-unfolding when up sum greatest any all first flat only anyTo allTo highest flatTo listTo pieces joined ended same digitOf scan starts value digits decimal solve recur numberOf unless tasksOf hasVcpu isVcpuOf hasGuest hasMutex global localTo opened shape hasShape numbers fieldsOf kindIn itemOf lineOf written vcpuItems mutexItems openItems lockItems taskItems sectionItems itemsOf linesOf textOf phase follows vcpuFits rule testsOf learn readingBy fault judge lineAbove restOf planOf itemsIn vcpuAt longestGlobal globalSum globalCount ght overrunOf blockingBy blocking vcpuStart vcpuDemand load preemption response waitStart waitDemand ceiling longestLocal localBlocking lengths taskDemand vcpuAnswer waitAnswer remoteWaits lacksWait isHeld taskAnswer allFit line vcpuLine waitLine waitLines taskLine taskLines rising allLine listing refusedLine verdictText factsOf fresh hasTask lists holdsGlobal localWaiter isBusy supply mustStop settled passes askFault mayHave asked freeFault waiterV waiterN nextGlobal freedGlobal localN nextLocal freedLocal freed useFault used topFault topped showFault heldGlobal heldLocal raisedBy taskPriority vcpuPriority step answersBy eventOf onLine lineAnswers answersText boardText
+unfolding when up sum greatest any all first flat only anyTo allTo highest flatTo listTo pieces joined ended same digitOf scan starts value digits decimal solve recur numberOf unless tasksOf hasVcpu isVcpuOf hasGuest hasMutex global localTo opened shape hasShape numberAt numbers fieldsOf kindIn itemOf lineOf written vcpuItems mutexItems openItems lockItems taskItems sectionItems itemsOf linesOf textOf phase follows vcpuFits rule testsOf learn readingBy fault judge lineAbove restOf planOf itemsIn vcpuAt longestGlobal globalSum globalCount ght overrunOf blockingBy blocking vcpuStart vcpuDemand load preemption response waitStart waitDemand ceiling longestLocal localBlocking lengths taskDemand vcpuAnswer waitAnswer remoteWaits lacksWait isHeld taskAnswer allFit line vcpuLine waitLine waitLines taskLine taskLines rising allLine listing refusedLine verdictText factsOf fresh hasTask lists holdsGlobal localWaiter isBusy supply mustStop settled passes askFault mayHave asked freeFault waiterV waiterN nextGlobal freedGlobal localN nextLocal freedLocal freed useFault used topFault topped showFault heldGlobal heldLocal raisedBy taskPriority vcpuPriority step answersBy eventOf onLine lineAnswers answersText boardText
 k1-to-k12 = refl

@@ -16,6 +16,7 @@ use Rattle.plan.specs.declared.Policy.{Policy}
 use Rattle.plan.specs.declared.OverrunChoice.{OverrunChoice}
 use Rattle.plan.specs.declared.Refusal.{Refusal}
 use Rattle.plan.specs.declared.Refusal.the-variants.{Shape, Range}
+use Rattle.plan.specs.declared.Complaint.{Complaint}
 use Rattle.plan.specs.Refusals.{numberOf}
 use Rattle.plan.specs.Line.{hasShape, numbers, written}
 use Rattle.plan.specs.Rules.{nth}
@@ -40,10 +41,24 @@ use Rattle.clock_sizes.specs.Sizes.{tickRoom}
 rest-length : (f : List ℕ) (fs : List (List ℕ)) → length (rest (f ∷ fs)) ≡ 1 + (length f + length (rest fs))
 rest-length f fs = ap length (rest-more f fs) ∙ length-append (tabbed f) (rest fs) ∙ omega arith
 
-pub refused-room : (r : Refusal) (l : ℕ) → l < 2 ^ 64 → (o : List ℕ) → length o ≡ tickRoom → length (refusedLine r l) ≤ length o
+pub refused-room : (c : Complaint) → c .line < 2 ^ 64 → c .field < 2 ^ 64 → (o : List ℕ) → length o ≡ tickRoom → length (refusedLine c) ≤ length o
 unfolding refusedLine
-refused-room r l h o e =
-    omega (arith, e, ap length (line-joins wRefused (decimal (numberOf r) ∷ decimal l ∷ []) .is) ∙ length-append wRefused (rest (decimal (numberOf r) ∷ decimal l ∷ [])), rest-length (decimal (numberOf r)) (decimal l ∷ []), rest-length (decimal l) [], end-sized .is, number-long (numberOf r) (let k = number-low r in omega arith), number-long l h)
+refused-room c h k o e =
+    let r = numberOf (c .number) in
+    let l = c .line in
+    let f = c .field in
+    omega (
+      arith,
+      e,
+      ap length (line-joins wRefused (decimal r ∷ decimal l ∷ decimal f ∷ []) .is) ∙ length-append wRefused (rest (decimal r ∷ decimal l ∷ decimal f ∷ [])),
+      rest-length (decimal r) (decimal l ∷ decimal f ∷ []),
+      rest-length (decimal l) (decimal f ∷ []),
+      rest-length (decimal f) [],
+      end-sized .is,
+      number-long r (let n = number-low (c .number) in omega arith),
+      number-long l h,
+      number-long f k,
+    )
 
 -- THE HORIZON of the line is not beyond the largest
 abbrev Fine : trace.Horizon → Type 0
@@ -67,8 +82,8 @@ fine-line [] = 0
 fine-line (l ∷ []) = 0
 fine-line (l ∷ m ∷ ls) =
     let fs = pieces tab l in
-    let x = fine-of (nth 0 (numbers horizonForm fs)) (written horizonForm (numbers horizonForm fs)) in
-    let y = horizonOf (nth 0 (numbers horizonForm fs)) (written horizonForm (numbers horizonForm fs)) in
+    let x = fine-of (nth 0 (numbers 1 horizonForm fs)) (written horizonForm (numbers 1 horizonForm fs)) in
+    let y = horizonOf (nth 0 (numbers 1 horizonForm fs)) (written horizonForm (numbers 1 horizonForm fs)) in
     fine-if (isNil m) (if isNil ls then horizonIn fs else trace.Refuse Shape) (fine-if (isNil ls) (horizonIn fs) (fine-if (hasShape horizonForm fs) y x))
 
 fine : (s : List ℕ) → Fine (horizonFrom s)

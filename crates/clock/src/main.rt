@@ -1,8 +1,9 @@
 // Reads a plan in plan.tsv and one line `horizon h` on standard input, and prints the run of the plan on a clock: a line for each event, tick after tick, and how the run ended; or a refusal.
 use clock_horizons::HorizonAnswer;
+use plan::Complaint;
 use plan::OverrunChoice;
 use plan::Policy;
-use plan::Refusal;
+use plan::no_room;
 use plan_tables::PlanRecord;
 use program::Input;
 use read_answer::PlanAnswer;
@@ -139,10 +140,10 @@ fn tell_asked(
 }
 
 // Prints the line of a refused plan.
-fn tell_refusal(x: Refusal, l: u64, out: &mut [u8])
+fn tell_refusal(c: Complaint, out: &mut [u8])
     requires { ⌜ length (now out) ≡ 131072 ⌝ }
 {
-    let w = listing_lines::refused_line(out, x, l);
+    let w = listing_lines::refused_line(out, c);
     program::print(&out[..w]);
 }
 
@@ -160,7 +161,7 @@ fn tell_or(
 {
     match a {
         PlanAnswer::Accepted(r) => tell_asked(r, vt, mt, ot, ts, src, out),
-        PlanAnswer::Refused { number, line } => tell_refusal(number, line as u64, out),
+        PlanAnswer::Refused(c) => tell_refusal(c, out),
     }
 }
 
@@ -168,11 +169,11 @@ fn tell_or(
 fn tell(plan: &[u8], src: &[u8]) {
     let mut out = [0u8; 131072];
     if desk_rooms::too_large(plan.len()) {
-        tell_refusal(Refusal::Room, 0, &mut out);
+        tell_refusal(no_room(), &mut out);
         return;
     }
     if desk_rooms::too_large(src.len()) {
-        tell_refusal(Refusal::Room, 0, &mut out);
+        tell_refusal(no_room(), &mut out);
         return;
     }
     let mut vt = [0u64; 80];

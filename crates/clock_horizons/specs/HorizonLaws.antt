@@ -9,12 +9,11 @@ use lib.ListN.{length, take, drop, length-drop, drop-of-length-le}
 use borrow.Author.Tests.{lt-ltb, le-ltb, eqb-true, eqb-false}
 use Rattle.laws.specs.Bytes.{onFirst, pieces, same, isNil}
 use Rattle.laws.specs.BytesLaws.{pieces-some}
-use Rattle.laws.specs.Decimal.{value}
 use Rattle.laws.specs.Fields.{before}
 use Rattle.laws.specs.Steps.{before-le, before-whole, head-part, drop-part, pieces-cut, pieces-uncut}
-use Rattle.plan.specs.Limits.{maxDigits, tab, lf}
+use Rattle.plan.specs.Limits.{tab, lf}
 use Rattle.plan.specs.declared.Refusal.the-variants.{Shape, Number, Range}
-use Rattle.plan.specs.Line.{bad, hasShape, numbers, written}
+use Rattle.plan.specs.Line.{bad, hasShape, numberAt, numbers, written}
 use Rattle.clock_rules.specs.Clock.{isHorizon}
 use Rattle.clock_rules.specs.Trace.{Until, Refuse, wHorizon, horizonOf, horizonIn, oneLine, horizonFrom}
 
@@ -46,7 +45,7 @@ field-more f g [] h = absurd (true≢false h)
 field-more f g (k ∷ fs) h = rw (and-false (same f wHorizon))
 
 -- two
-pub horizon-said : (f g : List ℕ) {v : ℕ} → true ≡ same f wHorizon → v ≡ value maxDigits g → horizonIn (f ∷ g ∷ []) ≡ horizonOf v (ltb v bad)
+pub horizon-said : (f g : List ℕ) {v : ℕ} → true ≡ same f wHorizon → v ≡ numberAt 2 g → horizonIn (f ∷ g ∷ []) ≡ horizonOf v (ltb v bad)
 unfolding hasShape numbers written
 horizon-said f g h e = rw (← h, ← e, and-true)
 

@@ -9,8 +9,8 @@ use Rattle.laws.specs.Bytes.{pieces, isNil}
 use Rattle.laws.specs.Decimal.{decimal}
 use Rattle.plan.specs.Limits.{maxInput, tab, lf}
 use Rattle.plan.specs.declared.Refusal.{Refusal}
-use Rattle.plan.specs.declared.Refusal.the-variants.{Shape, Number, Range, Room}
-use Rattle.plan.specs.Refusals.{numberOf}
+use Rattle.plan.specs.declared.Refusal.the-variants.{Shape, Number, Range}
+use Rattle.plan.specs.Refusals.{numberOf, noRoom}
 use Rattle.plan.specs.Line.{Form, Word, Num, hasShape, numbers, written, wAsk, wFree, wUse, wTop, wShow, wEnd}
 use Rattle.plan.specs.Rules.{nth}
 use Rattle.plan.specs.Reading.{Reading, Accepts, Refuses, reading}
@@ -86,7 +86,7 @@ horizonOf h ok = if ok then (if isHorizon h then Until h else Refuse Range) else
 -- wrong word or field count `refused 1`
 abbrev pub horizonIn : List (List ℕ) → Horizon
 horizonIn fs =
-    if hasShape horizonForm fs then horizonOf (nth 0 (numbers horizonForm fs)) (written horizonForm (numbers horizonForm fs)) else Refuse Shape
+    if hasShape horizonForm fs then horizonOf (nth 0 (numbers 1 horizonForm fs)) (written horizonForm (numbers 1 horizonForm fs)) else Refuse Shape
 
 -- no LF, or bytes after it, `refused 1`: one line, and nothing behind its LF
 abbrev pub oneLine : List (List ℕ) → Horizon
@@ -106,8 +106,8 @@ runTo T (Refuse r) = refusedAlone r
 runTo T (Until h) = runText T h
 
 abbrev pub clockOn : Reading → List ℕ → List ℕ
-clockOn (Refuses r l) s = refusedLine r l
+clockOn (Refuses c) s = refusedLine c
 clockOn (Accepts p) s = runTo (timingOf (system p)) (horizonFrom s)
 
 unfoldable pub clockText : List ℕ → List ℕ → List ℕ
-clockText p s = elim (ltb maxInput (length p) || ltb maxInput (length s)) [ true ↦ refusedLine Room 0 | false ↦ clockOn (reading p) s ]
+clockText p s = elim (ltb maxInput (length p) || ltb maxInput (length s)) [ true ↦ refusedLine noRoom | false ↦ clockOn (reading p) s ]

@@ -14,7 +14,7 @@ use Rattle.plan.specs.declared.OverrunChoice.the-variants.{WithoutOverrun}
 use Rattle.plan.specs.Refusals.{unless}
 use Rattle.plan.specs.Plan.{Plan, Global, tasksOf}
 use Rattle.plan.specs.Lookup.{hasVcpu, isVcpuOf, hasGuest, hasMutex, global, localTo, opened}
-use Rattle.plan.specs.Line.{shape, hasShape, numbers, kindIn, itemOf, written}
+use Rattle.plan.specs.Line.{shape, hasShape, numberAt, numbers, kindIn, itemOf, written}
 use Rattle.plan.specs.Rules.{phase, follows, vcpuFits, rule, testsOf, learn}
 use Rattle.plan.specs.Reading.{Reading, Accepts, reading, readingBy, fault, judge}
 use Rattle.plan.specs.Gathered.{lineAbove, restOf, planOf, itemsIn}
@@ -105,5 +105,5 @@ pub fits-and-misses :
           ∷ [];
       ends = Missed 27 1 1;
     })
-unfolding when up sum greatest any all first flat only anyTo allTo highest flatTo listTo pieces joined same digitOf scan starts value digits decimal lowest topOf solve recur unless tasksOf hasVcpu isVcpuOf hasGuest hasMutex global localTo opened shape hasShape numbers kindIn itemOf written phase follows vcpuFits rule testsOf learn readingBy fault judge lineAbove restOf planOf itemsIn vcpuAt longestGlobal globalSum globalCount ght overrunOf blockingBy blocking vcpuStart vcpuDemand load preemption response waitStart waitDemand longestLocal localBlocking lengths taskDemand vcpuAnswer waitAnswer remoteWaits lacksWait isHeld taskAnswer allFit hasTask taskAt line vcpuLine waitLine waitLines taskLine taskLines rising allLine listing verdictText factsOf lists fresh holdsGlobal isBusy supply settled askFault mayHave asked freeFault waiterV waiterN nextGlobal freedGlobal freed useFault used topFault topped heldGlobal heldLocal taskPriority vcpuPriority step boardBy beginsIn endsIn timingOf atFirst tops missed released pickV pickN picked asks idleUses turn afterTurn afterTurns openedAt tick runFrom
+unfolding when up sum greatest any all first flat only anyTo allTo highest flatTo listTo pieces joined same digitOf scan starts value digits decimal lowest topOf solve recur unless tasksOf hasVcpu isVcpuOf hasGuest hasMutex global localTo opened shape hasShape numberAt numbers kindIn itemOf written phase follows vcpuFits rule testsOf learn readingBy fault judge lineAbove restOf planOf itemsIn vcpuAt longestGlobal globalSum globalCount ght overrunOf blockingBy blocking vcpuStart vcpuDemand load preemption response waitStart waitDemand longestLocal localBlocking lengths taskDemand vcpuAnswer waitAnswer remoteWaits lacksWait isHeld taskAnswer allFit hasTask taskAt line vcpuLine waitLine waitLines taskLine taskLines rising allLine listing verdictText factsOf lists fresh holdsGlobal isBusy supply settled askFault mayHave asked freeFault waiterV waiterN nextGlobal freedGlobal freed useFault used topFault topped heldGlobal heldLocal taskPriority vcpuPriority step boardBy beginsIn endsIn timingOf atFirst tops missed released pickV pickN picked asks idleUses turn afterTurn afterTurns openedAt tick runFrom
 fits-and-misses = refl

@@ -15,7 +15,7 @@ use Rattle.plan.specs.declared.Lock.{Lock}
 use Rattle.plan.specs.Refusals.{unless}
 use Rattle.plan.specs.Plan.{Vcpu, Task, Plan, Global, tasksOf}
 use Rattle.plan.specs.Lookup.{hasVcpu, isVcpuOf, hasGuest, hasMutex, global, localTo, opened}
-use Rattle.plan.specs.Line.{shape, hasShape, numbers, kindIn, itemOf, written}
+use Rattle.plan.specs.Line.{shape, hasShape, numberAt, numbers, kindIn, itemOf, written}
 use Rattle.plan.specs.Rules.{phase, follows, vcpuFits, rule, testsOf, learn}
 use Rattle.plan.specs.Reading.{Reading, Accepts, reading, readingBy, fault, judge}
 use Rattle.plan.specs.Gathered.{lineAbove, restOf, planOf, itemsIn}
@@ -258,5 +258,5 @@ pub runs-worked :
             ∷ [];
       };
     })
-unfolding when sum greatest any first flat anyTo allTo highest flatTo listTo pieces joined same digitOf scan starts value digits decimal lowest topOf unless tasksOf hasVcpu isVcpuOf hasGuest hasMutex global localTo opened shape hasShape numbers kindIn itemOf written phase follows vcpuFits rule testsOf learn readingBy fault judge lineAbove restOf planOf itemsIn vcpuAt longestGlobal ght overrunOf lengths hasTask taskAt line factsOf lists fresh holdsGlobal isBusy supply mustStop settled askFault mayHave asked freeFault waiterV waiterN nextGlobal freedGlobal freed useFault used topFault topped heldGlobal heldLocal taskPriority vcpuPriority step answersBy boardBy beginsIn endsIn timingOf atFirst tops missed released pickV pickN picked asks idleUses turn afterTurn turns afterTurns openedAt tick runFrom eventsAt traceFrom linesAt tickText textFrom horizonFrom clockText stateAt overTicks besides
+unfolding when sum greatest any first flat anyTo allTo highest flatTo listTo pieces joined same digitOf scan starts value digits decimal lowest topOf unless tasksOf hasVcpu isVcpuOf hasGuest hasMutex global localTo opened shape hasShape numberAt numbers kindIn itemOf written phase follows vcpuFits rule testsOf learn readingBy fault judge lineAbove restOf planOf itemsIn vcpuAt longestGlobal ght overrunOf lengths hasTask taskAt line factsOf lists fresh holdsGlobal isBusy supply mustStop settled askFault mayHave asked freeFault waiterV waiterN nextGlobal freedGlobal freed useFault used topFault topped heldGlobal heldLocal taskPriority vcpuPriority step answersBy boardBy beginsIn endsIn timingOf atFirst tops missed released pickV pickN picked asks idleUses turn afterTurn turns afterTurns openedAt tick runFrom eventsAt traceFrom linesAt tickText textFrom horizonFrom clockText stateAt overTicks besides
 runs-worked = refl

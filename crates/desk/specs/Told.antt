@@ -6,8 +6,8 @@ use mathlib.Core.Bool.{Bool, true, false, _||_}
 use lib.Dec.{ltb}
 use lib.ListN.{length}
 use Rattle.plan.specs.Limits.{maxInput}
-use Rattle.plan.specs.declared.Refusal.{Refusal}
-use Rattle.plan.specs.declared.Refusal.the-variants.{Room}
+use Rattle.plan.specs.declared.Complaint.{Complaint}
+use Rattle.plan.specs.Refusals.{noRoom}
 use Rattle.plan.specs.Reading.{Reading, reading}
 use Rattle.plan_tables.specs.declared.PlanRecord.{PlanRecord}
 use Rattle.plan_tables.specs.Layout.{Tables, lent}
@@ -26,7 +26,7 @@ use Rattle.board_events.specs.Events.{eventsText, boardText}
 use Rattle.listing_lines.specs.declared.TextAnswer.{TextAnswer}
 use Rattle.listing_lines.specs.Into.{textAnswer, textAfter}
 use Rattle.records_read.specs.Lies.{Sure, refused-reads, left-lies}
-use Rattle.desk.specs.Read.{recordIn, refusalIn, lineIn, accepted-is, refused-is}
+use Rattle.desk.specs.Read.{recordIn, complaintIn, accepted-is, refused-is}
 use Rattle.desk_rooms.specs.Boarded.{answersFor}
 
 -- of a plan in tables, the answers to events where `on`, else its listing
@@ -37,7 +37,7 @@ toldIn false r t es = listing (systemIn r (t .vcpus) (t .mutexes) (t .tasks))
 -- the same of an accepted plan; of a refused one its line
 abbrev pub toldOr : Bool → PlanAnswer → Tables → List ℕ → List ℕ
 toldOr on (Accepted r) t es = toldIn on r t es
-toldOr on (Refused x l) t es = refusedLine x l
+toldOr on (Refused x) t es = refusedLine x
 
 -- the same of a reading
 abbrev pub textFor : Bool → Reading → List ℕ → List ℕ
@@ -72,10 +72,10 @@ module _ {a : PlanAnswer} {t : Tables} (s : Sure a t) {x : Bool} (h : x ≡ isAc
     told-text on es o w = rw told-is w
 
   pub untold-text :
-      (e : x ≡ false) {y : Refusal} {l : ℕ} (k : y ≡ refusalIn a) (m : l ≡ lineIn a) (on : Bool) (es o : List ℕ) {b : TextAnswer} {p : List ℕ} →
-      Printed (refusedLine y l) o b p → Printed (toldOr on a t es) o b p
-  untold-text e {y} {l} k m on es o w =
-      let q : a ≡ Refused y l = refused-is a (sym h ∙ e) ∙ rw (k, m) in
+      (e : x ≡ false) {y : Complaint} (k : y ≡ complaintIn a) (on : Bool) (es o : List ℕ) {b : TextAnswer} {p : List ℕ} →
+      Printed (refusedLine y) o b p → Printed (toldOr on a t es) o b p
+  untold-text e {y} k on es o w =
+      let q : a ≡ Refused y = refused-is a (sym h ∙ e) ∙ ap Refused (sym k) in
       rw q w
 
 -- of a reading into tables with room for every plan: what it answers, and the rows that its lines leave
@@ -97,13 +97,13 @@ module _ (s : List ℕ) {vt mt ot ts : List ℕ} (l : Ample (lent vt mt ot ts)) 
       let w = left-lies s l h v m o k r e in
       ap listing (w .1 .holds) ∙ ap readText (sym (w .1 .reads))
 
-  refused-told : (on : Bool) (es : List ℕ) (x : Refusal) (n : ℕ) → a ≡ Refused x n → refusedLine x n ≡ textFor on (reading s) es
-  refused-told true es x n e = ap (λ x. eventsText x es) (sym (refused-reads s into l x n (sym h ∙ e)))
-  refused-told false es x n e = ap readText (sym (refused-reads s into l x n (sym h ∙ e)))
+  refused-told : (on : Bool) (es : List ℕ) (x : Complaint) → a ≡ Refused x → refusedLine x ≡ textFor on (reading s) es
+  refused-told true es x e = ap (λ x. eventsText x es) (sym (refused-reads s into l x (sym h ∙ e)))
+  refused-told false es x e = ap readText (sym (refused-reads s into l x (sym h ∙ e)))
 
   left-told : (on : Bool) (es : List ℕ) (z : PlanAnswer) → a ≡ z → toldOr on z left es ≡ textFor on (reading s) es
   left-told on es (Accepted r) e = accepted-told on es r e
-  left-told on es (Refused x n) e = refused-told on es x n e
+  left-told on es (Refused x) e = refused-told on es x e
 
   pub left-text : (on : Bool) (es w : List ℕ) {b : TextAnswer} {p : List ℕ} → Printed (toldOr on a left es) w b p → Printed (textFor on (reading s) es) w b p
   left-text on es w z = as-printed w (sym (left-told on es a refl)) z
@@ -111,25 +111,25 @@ module _ (s : List ℕ) {vt mt ot ts : List ℕ} (l : Ample (lent vt mt ot ts)) 
 -- SIZES
 -- above 65,536 bytes an input is not judged: what is printed of two inputs, by the tests of their sizes
 board-by : {x y : Bool} (s es : List ℕ) → x ≡ ltb maxInput (length s) → y ≡ ltb maxInput (length es) →
-    boardText s es ≡ elim (x || y) [ true ↦ refusedLine Room 0 | false ↦ eventsText (reading s) es ]
+    boardText s es ≡ elim (x || y) [ true ↦ refusedLine noRoom | false ↦ eventsText (reading s) es ]
 unfolding boardText
-board-by s es h k = ap₂ (λ (a b : Bool). elim (a || b) [ true ↦ refusedLine Room 0 | false ↦ eventsText (reading s) es ]) (sym h) (sym k)
+board-by s es h k = ap₂ (λ (a b : Bool). elim (a || b) [ true ↦ refusedLine noRoom | false ↦ eventsText (reading s) es ]) (sym h) (sym k)
 
 module _ (s es : List ℕ) where
-  large-plan : ltb maxInput (length s) ≡ true → boardText s es ≡ refusedLine Room 0
+  large-plan : ltb maxInput (length s) ≡ true → boardText s es ≡ refusedLine noRoom
   large-plan h = board-by s es (sym h) refl
 
-  large-events : ltb maxInput (length es) ≡ true → boardText s es ≡ refusedLine Room 0
+  large-events : ltb maxInput (length es) ≡ true → boardText s es ≡ refusedLine noRoom
   large-events h = board-by s es refl (sym h) ∙ go (ltb maxInput (length s))
     where
-      go : (a : Bool) → _≡_ {A = List ℕ} (elim (a || true) [ true ↦ refusedLine Room 0 | false ↦ eventsText (reading s) es ]) (refusedLine Room 0)
+      go : (a : Bool) → _≡_ {A = List ℕ} (elim (a || true) [ true ↦ refusedLine noRoom | false ↦ eventsText (reading s) es ]) (refusedLine noRoom)
       go true = refl
       go false = refl
 
   small-inputs : ltb maxInput (length s) ≡ false → ltb maxInput (length es) ≡ false → boardText s es ≡ eventsText (reading s) es
   small-inputs h k = board-by s es (sym h) (sym k)
 
-large-verdict : (s : List ℕ) → ltb maxInput (length s) ≡ true → verdictText s ≡ refusedLine Room 0
+large-verdict : (s : List ℕ) → ltb maxInput (length s) ≡ true → verdictText s ≡ refusedLine noRoom
 unfolding verdictText
 large-verdict s h = rw (h, verdictText)
 
@@ -138,18 +138,18 @@ unfolding verdictText
 small-verdict s h = rw (h, verdictText)
 
 module _ (s es o : List ℕ) {b : TextAnswer} {p : List ℕ} where
-  pub plan-printed : ltb maxInput (length s) ≡ true → Printed (refusedLine Room 0) o b p → Printed (boardText s es) o b p
-  plan-printed h w = as-printed o (large-plan s es h) w
+  pub plan-printed : ltb maxInput (length s) ≡ true → {c : Complaint} → c ≡ noRoom → Printed (refusedLine c) o b p → Printed (boardText s es) o b p
+  plan-printed h k w = as-printed o (large-plan s es h ∙ ap refusedLine (sym k)) w
 
-  pub events-printed : ltb maxInput (length es) ≡ true → Printed (refusedLine Room 0) o b p → Printed (boardText s es) o b p
-  events-printed h w = as-printed o (large-events s es h) w
+  pub events-printed : ltb maxInput (length es) ≡ true → {c : Complaint} → c ≡ noRoom → Printed (refusedLine c) o b p → Printed (boardText s es) o b p
+  events-printed h k w = as-printed o (large-events s es h ∙ ap refusedLine (sym k)) w
 
   pub board-printed : ltb maxInput (length s) ≡ false → ltb maxInput (length es) ≡ false → Printed (eventsText (reading s) es) o b p → Printed (boardText s es) o b p
   board-printed h k w = as-printed o (small-inputs s es h k) w
 
 module _ (s o : List ℕ) {b : TextAnswer} {p : List ℕ} where
-  pub large-printed : ltb maxInput (length s) ≡ true → Printed (refusedLine Room 0) o b p → Printed (verdictText s) o b p
-  large-printed h w = as-printed o (large-verdict s h) w
+  pub large-printed : ltb maxInput (length s) ≡ true → {c : Complaint} → c ≡ noRoom → Printed (refusedLine c) o b p → Printed (verdictText s) o b p
+  large-printed h k w = as-printed o (large-verdict s h ∙ ap refusedLine (sym k)) w
 
   pub verdict-printed : ltb maxInput (length s) ≡ false → Printed (readText (reading s)) o b p → Printed (verdictText s) o b p
   verdict-printed h w = as-printed o (small-verdict s h) w

@@ -1,6 +1,8 @@
 // The faces that strangers call: from any bytes to the bytes that a program prints.
 use listing_lines::TextAnswer;
+use plan::Complaint;
 use plan::Refusal;
+use plan::no_room;
 use plan_tables::PlanRecord;
 use read_answer::PlanAnswer;
 ghost use mathlib.Core.Path.{_≡_};
@@ -15,7 +17,7 @@ ghost use Rattle.board_events.specs.Events.{boardText};
 ghost use Rattle.text_letters.specs.Wrote.{Wrote};
 ghost use Rattle.listing_lines.specs.Into.{textAnswer, textAfter, bytesIn};
 ghost use Rattle.records_read.specs.Lies.{Sure};
-ghost use Rattle.desk.specs.Read.{recordIn, refusalIn, lineIn};
+ghost use Rattle.desk.specs.Read.{recordIn, complaintIn};
 ghost use Rattle.desk.specs.Told.{toldIn, toldOr, textFor};
 ghost use Rattle.desk_rooms.specs.Whole.{verdictBytes, boardBytes, Counted};
 
@@ -25,39 +27,29 @@ fn record_in(a: PlanAnswer) -> PlanRecord
 {
     match a {
         PlanAnswer::Accepted(r) => r,
-        PlanAnswer::Refused { number: _, line: _ } => read_tally::record_of(read_tally::blank()),
+        PlanAnswer::Refused(_) => read_tally::record_of(read_tally::blank()),
     }
 }
 
-// Why a plan is refused.
-fn refusal_in(a: PlanAnswer) -> Refusal
-    ensures { λ x. ⌜ x ≡ refusalIn a ⌝ }
+// Why a plan is refused; of an accepted one no reason that counts.
+fn complaint_in(a: PlanAnswer) -> Complaint
+    ensures { λ x. ⌜ x ≡ complaintIn a ⌝ }
 {
     match a {
-        PlanAnswer::Accepted(_) => Refusal::Shape,
-        PlanAnswer::Refused { number, line: _ } => number,
-    }
-}
-
-// The line of a refused plan.
-fn line_in(a: PlanAnswer) -> u64
-    ensures { λ x. ⌜ x ≡ lineIn a ⌝ }
-{
-    match a {
-        PlanAnswer::Accepted(_) => 0,
-        PlanAnswer::Refused { number: _, line } => line as u64,
+        PlanAnswer::Accepted(_) => no_room(),
+        PlanAnswer::Refused(c) => c,
     }
 }
 
 // Writes the one line of a refusal; with too little room 8, and the buffer as it was lent.
-fn refusal_text(x: Refusal, l: u64, out: &mut [u8]) -> TextAnswer
-    ensures { λ a. ⌜ a ≡ textAnswer (refusedLine x l) (now (out .entry)) ⌝ }
-    ensures { λ a. ⌜ now (out .exit) ≡ textAfter (refusedLine x l) (now (out .entry)) ⌝ }
+fn refusal_text(c: Complaint, out: &mut [u8]) -> TextAnswer
+    ensures { λ a. ⌜ a ≡ textAnswer (refusedLine c) (now (out .entry)) ⌝ }
+    ensures { λ a. ⌜ now (out .exit) ≡ textAfter (refusedLine c) (now (out .entry)) ⌝ }
 {
-    if out.len() < listing_lines::refused_size(x, l) {
+    if out.len() < listing_lines::refused_size(c) {
         return TextAnswer::Refused(Refusal::Room);
     }
-    let n = listing_lines::refused_line(out, x, l);
+    let n = listing_lines::refused_line(out, c);
     TextAnswer::Written(n)
 }
 
@@ -101,9 +93,7 @@ fn text_or(
         let r = record_in(a);
         return text_into(on, r, vt, mt, ot, ts, src, out);
     }
-    let x = refusal_in(a);
-    let l = line_in(a);
-    refusal_text(x, l, out)
+    refusal_text(complaint_in(a), out)
 }
 
 // Reads a plan, and writes the answers to the events of src where `on`, else its listing; or its refusal.
@@ -126,10 +116,10 @@ pub fn board_text(plan: &[u8], src: &[u8], out: &mut [u8]) -> TextAnswer
     ensures { λ x. ⌜ now (out .exit) ≡ textAfter (boardText (now (plan .entry)) (now (src .entry))) (now (out .entry)) ⌝ }
 {
     if desk_rooms::too_large(plan.len()) {
-        return refusal_text(Refusal::Room, 0, out);
+        return refusal_text(no_room(), out);
     }
     if desk_rooms::too_large(src.len()) {
-        return refusal_text(Refusal::Room, 0, out);
+        return refusal_text(no_room(), out);
     }
     text_of(true, plan, src, out)
 }
@@ -140,7 +130,7 @@ pub fn verdict_text(src: &[u8], out: &mut [u8]) -> TextAnswer
     ensures { λ x. ⌜ now (out .exit) ≡ textAfter (verdictText (now (src .entry))) (now (out .entry)) ⌝ }
 {
     if desk_rooms::too_large(src.len()) {
-        return refusal_text(Refusal::Room, 0, out);
+        return refusal_text(no_room(), out);
     }
     text_of(false, src, src, out)
 }

@@ -14,7 +14,10 @@ fn run_or(a: PlanAnswer, vt: &[u64], mt: &[u64], ot: &[u64], ts: &[u64], h: u64)
 {
     match a {
         PlanAnswer::Accepted(r) => clock_tables::run_to(r, vt, mt, ot, ts, h),
-        PlanAnswer::Refused { number, line: _ } => RunAnswer::NoRun(number),
+        PlanAnswer::Refused(c) => {
+            let x = c.number;
+            RunAnswer::NoRun(x)
+        }
     }
 }
 

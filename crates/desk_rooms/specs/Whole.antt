@@ -9,9 +9,10 @@ use lib.Dec.{ltb}
 use lib.ListN.{length, take, drop, length-append}
 use lib.Seq.{length-take-le}
 use Rattle.plan.specs.Limits.{maxInput}
-use Rattle.plan.specs.declared.Refusal.the-variants.{Room}
+use Rattle.plan.specs.Refusals.{noRoom}
 use Rattle.plan.specs.Reading.{Reading, Accepts, Refuses, reading}
 use Rattle.plan.specs.Accepted.{read-text}
+use Rattle.plan_fields.specs.Few.{field-few}
 use Rattle.listing.specs.Listing.{refusedLine, verdictText}
 use Rattle.listing_order.specs.Bound.{refused-bound, refused-line, verdict-bound}
 use Rattle.board_events.specs.Events.{eventsText, boardText}
@@ -50,17 +51,17 @@ verdict-fits s h = let k = verdict-bound s in omega arith
 read-fits : (s es : List ℕ) → length s ≤ maxInput → length es ≤ maxInput → (x : Reading) → reading s ≡ x → length (eventsText x es) ≤ boardBytes
 unfolding answersFor
 read-fits s es h k (Accepts p) e = let b = plan-bound p es (read-text s p e .0) in omega arith
-read-fits s es h k (Refuses r l) e = let z = refused-line s r l e in let b = refused-bound r l (omega arith) in omega arith
+read-fits s es h k (Refuses c) e = let z = refused-line s c e in let b = refused-bound c (omega arith) (field-few s c e) in omega arith
 
 pub board-fits : (s es : List ℕ) {m : ℕ} → boardBytes ≤ m → length (boardText s es) ≤ m
 unfolding boardText
 board-fits s es {m} h = go (ltb maxInput (length s)) (ltb maxInput (length es)) refl refl
   where
-    large : length (refusedLine Room 0) ≤ m
-    large = let b = refused-bound Room 0 (omega arith) in omega arith
+    large : length (refusedLine noRoom) ≤ m
+    large = let b = refused-bound noRoom (omega arith) (omega arith) in omega arith
 
     go : (x y : Bool) → ltb maxInput (length s) ≡ x → ltb maxInput (length es) ≡ y →
-        length {A = ℕ} (elim (x || y) [ true ↦ refusedLine Room 0 | false ↦ eventsText (reading s) es ]) ≤ m
+        length {A = ℕ} (elim (x || y) [ true ↦ refusedLine noRoom | false ↦ eventsText (reading s) es ]) ≤ m
     go true y a b = large
     go false true a b = large
     go false false a b = let k = read-fits s es (ltb-false maxInput (length s) a) (ltb-false maxInput (length es) b) (reading s) refl in omega arith

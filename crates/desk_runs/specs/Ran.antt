@@ -8,7 +8,7 @@ use lib.Dec.{ltb}
 use lib.ListN.{length}
 use Rattle.laws.specs.Choice.{if_then_else_}
 use Rattle.plan.specs.Limits.{maxInput}
-use Rattle.plan.specs.declared.Refusal.{Refusal}
+use Rattle.plan.specs.declared.Complaint.{Complaint}
 use Rattle.plan.specs.declared.Refusal.the-variants.{Range, Room, Foreign}
 use Rattle.plan.specs.Plan.{Plan}
 use Rattle.plan.specs.Reading.{Reading, Accepts, Refuses, reading}
@@ -34,7 +34,7 @@ runPlan p h = if isHorizon h then runOf (timingOf (system p)) h else NoRun Range
 -- of a reading, first its own refusal
 abbrev pub runRead : Reading → ℕ → RunAnswer
 runRead (Accepts p) h = runPlan p h
-runRead (Refuses x l) h = NoRun x
+runRead (Refuses c) h = NoRun (c .number)
 
 -- of any bytes: above 65,536 a plan is not judged
 unfoldable pub runBytes : List ℕ → ℕ → RunAnswer
@@ -47,7 +47,7 @@ runInto s h ys = if ltb (length ys) 3 then NoRun Room else runBytes s h
 -- of an answer and the tables that it left
 unfoldable pub runOr : PlanAnswer → Tables → ℕ → RunAnswer
 runOr (Accepted r) t h = runFor r t h
-runOr (Refused x l) t h = NoRun x
+runOr (Refused c) t h = NoRun (c .number)
 
 -- as code finds out
 module _ {a : PlanAnswer} (t : Tables) (h : ℕ) where
@@ -55,7 +55,7 @@ module _ {a : PlanAnswer} (t : Tables) (h : ℕ) where
   unfolding runOr
   ran-accepted e q = q ∙ ap (λ z. runOr z t h) (sym e)
 
-  pub ran-refused : {x : Refusal} {l : ℕ} → a ≡ Refused x l → NoRun x ≡ runOr a t h
+  pub ran-refused : {c : Complaint} → a ≡ Refused c → NoRun (c .number) ≡ runOr a t h
   unfolding runOr
   ran-refused e = ap (λ z. runOr z t h) (sym e)
 
@@ -79,7 +79,7 @@ module _ (s : List ℕ) {vt mt ot ts : List ℕ} (l : Ample (lent vt mt ot ts)) 
   left-ran : (z : PlanAnswer) → a ≡ z → runOr z left h ≡ runRead (reading s) h
   unfolding runOr
   left-ran (Accepted r) z = accepted-ran r z
-  left-ran (Refused x n) z = ap (λ y. runRead y h) (sym (refused-reads s (lent vt mt ot ts) l x n (sym e ∙ z)))
+  left-ran (Refused x) z = ap (λ y. runRead y h) (sym (refused-reads s (lent vt mt ot ts) l x (sym e ∙ z)))
 
   -- where the plan is not too large
   pub ran-read : {y : Bool} → y ≡ ltb maxInput (length s) → y ≡ false → {b : RunAnswer} → b ≡ runOr a left h → b ≡ runBytes s h

@@ -18,7 +18,7 @@ use Rattle.plan.specs.declared.OverrunChoice.the-variants.{WithOverrun, Without
 use Rattle.plan.specs.declared.Lock.{Lock}
 use Rattle.plan.specs.Plan.{Vcpu, Task, Plan, Mutex, Open, Global, Local, tasksOf}
 use Rattle.plan.specs.Refusals.{unless}
-use Rattle.plan.specs.Line.{shape, hasShape, numbers, fieldsOf, kindIn, itemOf, lineOf, written}
+use Rattle.plan.specs.Line.{shape, hasShape, numberAt, numbers, fieldsOf, kindIn, itemOf, lineOf, written}
 use Rattle.plan.specs.Text.{text, vcpuItems, mutexItems, openItems, lockItems, taskItems, sectionItems, itemsOf, linesOf, textOf}
 use Rattle.plan.specs.Rules.{phase, follows, vcpuFits, rule, testsOf, learn}
 use Rattle.plan.specs.Reading.{Reading, Accepts, reading, readingBy, fault, judge}
@@ -281,5 +281,5 @@ pub plans-read :
     _≡_ {A = List Reading}
     (reading (text (second Periodic WithOverrun)) ∷ reading (text (second Periodic WithoutOverrun)) ∷ reading (text (second Deferrable WithOverrun)) ∷ reading (text (second Deferrable WithoutOverrun)) ∷ reading (text third) ∷ [])
     (Accepts (second Periodic WithOverrun) ∷ Accepts (second Periodic WithoutOverrun) ∷ Accepts (second Deferrable WithOverrun) ∷ Accepts (second Deferrable WithoutOverrun) ∷ Accepts third ∷ [])
-unfolding when up sum greatest any all first flat only pieces joined ended same digitOf scan starts value digits decimal unless tasksOf hasVcpu isVcpuOf hasGuest hasMutex global localTo opened shape hasShape numbers fieldsOf kindIn itemOf lineOf written vcpuItems mutexItems openItems lockItems taskItems sectionItems itemsOf linesOf textOf phase follows vcpuFits rule testsOf learn readingBy fault judge lineAbove restOf planOf itemsIn
+unfolding when up sum greatest any all first flat only pieces joined ended same digitOf scan starts value digits decimal unless tasksOf hasVcpu isVcpuOf hasGuest hasMutex global localTo opened shape hasShape numberAt numbers fieldsOf kindIn itemOf lineOf written vcpuItems mutexItems openItems lockItems taskItems sectionItems itemsOf linesOf textOf phase follows vcpuFits rule testsOf learn readingBy fault judge lineAbove restOf planOf itemsIn
 plans-read = refl

@@ -9,13 +9,15 @@ use lib.ListN.{getD, replicate}
 use Rattle.laws.specs.Sums.{any}
 use Rattle.plan.specs.Limits.{maxV, maxGuest, maxM}
 use Rattle.plan.specs.declared.Fault.the-variants.{Clear}
+use Rattle.plan.specs.declared.Refusal.{Refusal}
 use Rattle.plan.specs.declared.Refusal.the-variants.{Shape, Number}
 use Rattle.plan.specs.Refusals.{unless}
-use Rattle.plan.specs.Line.{Item, shape, written}
+use Rattle.plan.specs.Line.{Item, headOr, shape, written}
 use Rattle.plan.specs.Lookup.{hasVcpu, isVcpuOf, hasGuest, hasMutex, localTo, opened}
 use Rattle.plan.specs.Lookup as lookup
 use Rattle.plan.specs.Rules.{Known, phase, within, follows}
 use Rattle.plan.specs.Rules as known
+use Rattle.plan.specs.Fields.{fieldOf}
 use Rattle.plan.specs.Reading.{rules, fault, Passes, readingBy, reading}
 use Rattle.judge_coded.specs.Coded.{Seen, coded, start, global, openings, slot}
 use Rattle.judge_coded.specs.Same.{Same}
@@ -66,6 +68,9 @@ same-fault t s r i =
     ap₂ (λ a f. unless a Shape (unless (written (shape (i .kind)) (i .nums)) Number f)) (ap (λ q. follows q (i .kind)) (r .phase-is))
     (same-rule r (i .kind) (i .nums))
 
+pub same-field : (t : Known) (s : Seen) → Same t s → (i : Item) (x : Refusal) → rules .field t i x ≡ coded .field s i x
+same-field t s r i x = ap (λ g. fieldOf g (i .kind) (i .nums) x) (r .mutexes .is-global (headOr (i .nums)))
+
 pub same-next : (t : Known) (s : Seen) → Same t s → (i : Item) → fault rules t i ≡ Clear → Same (rules .next t i) (coded .next s i)
 unfolding fault
 same-next t s r i h =
@@ -77,6 +82,7 @@ same-ready t s r = ap (λ q. eqb q 10) (r .phase-is)
 alike : simulated.Alike coded rules (λ s t. Same t s)
 alike =
     record {
+      fields = λ s t r i x. sym (same-field t s r i x);
       faults = λ s t r i. sym (same-fault t s r i);
       stops = λ s t r. sym (same-ready t s r);
       stays = λ s t r i h. same-next t s r i h;

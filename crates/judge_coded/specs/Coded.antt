@@ -11,8 +11,9 @@ use Rattle.plan.specs.declared.Refusal.the-variants.{Range, Order, Missing, Out
 use Rattle.plan.specs.Refusals.{unless}
 use Rattle.plan.specs.declared.Kind.{Kind}
 use Rattle.plan.specs.declared.Kind.the-variants.{PlanLine, PolicyPO, PolicyPN, PolicyDO, PolicyDN, VcpuLine, MutexG, MutexL, OpenLine, GuestLine, TaskLine, RunLine, LockLine, EndLine, AskLine, FreeLine, UseLine, TopLine, ShowLine}
-use Rattle.plan.specs.Line.{Item, numsOf}
+use Rattle.plan.specs.Line.{Item, headOr, numsOf}
 use Rattle.plan.specs.Rules.{phase, within, follows, nth, rises, vcpuFits}
+use Rattle.plan.specs.Fields.{fieldOf}
 use Rattle.plan.specs.Reading.{Judge}
 pub use Rattle.judge_coded.specs.declared.Seen.{Seen}
 
@@ -180,6 +181,7 @@ coded = record {
   Seen = Seen;
   allowed = λ t k. follows (t .phase) k;
   judged = λ t i. ruled t (i .kind) (i .nums);
+  field = λ t i r. fieldOf (eqb (getD (t .owners) (headOr (i .nums)) 0) global) (i .kind) (i .nums) r;
   next = λ t i. seenBy (phase (i .kind)) t (i .kind) (i .nums);
   ready = λ t. eqb (t .phase) 10;
 }

@@ -19,7 +19,7 @@ use plan::unless;
 use plan::within;
 ghost use mathlib.Core.Path.{_≡_};
 ghost use lib.ListN.{getD};
-ghost use lib.Dec.{leb};
+ghost use lib.Dec.{eqb, leb};
 ghost use Rattle.plan.specs.Rules as rules;
 ghost use Rattle.plan.specs.Reading.{fault};
 ghost use Rattle.judge_coded.specs.Coded as coded;
@@ -39,6 +39,13 @@ fn at(s: &[u8], i: u64) -> u64
 {
     let k = i as usize;
     if k < s.len() { wide(s[k]) } else { 0 }
+}
+
+// Is m a global mutex?
+pub fn is_global(t: Seen, m: u64) -> bool
+    ensures { λ r. ⌜ r ≡ eqb (getD (t .owners) m 0) coded.global ⌝ }
+{
+    at(&t.owners, m) == GLOBAL
 }
 
 // May a line of this kind follow a line of phase q?

@@ -12,9 +12,8 @@ use Rattle.laws.specs.Decimal.{decimal}
 use Rattle.search.specs.declared.Answer.{Answer}
 use Rattle.search.specs.declared.Answer.the-variants.{Fits, Late}
 use Rattle.plan.specs.Limits.{maxV, maxN, maxInput, tab, lf}
-use Rattle.plan.specs.declared.Refusal.{Refusal}
-use Rattle.plan.specs.declared.Refusal.the-variants.{Room}
-use Rattle.plan.specs.Refusals.{numberOf}
+use Rattle.plan.specs.declared.Complaint.{Complaint}
+use Rattle.plan.specs.Refusals.{numberOf, noRoom}
 use Rattle.plan.specs.Line.{wOne, wVcpu, wTask}
 use Rattle.plan.specs.declared.Lock.{Lock}
 use Rattle.plan.specs.Plan.{Vcpu, Task}
@@ -119,14 +118,14 @@ allLine p = line (wAll ∷ (if allFit p then wFits else wLate) ∷ [])
 unfoldable pub listing : System → List ℕ
 listing p = line (wVerdict ∷ wOne ∷ []) ++ (flat (vcpuLine p) (p .vcpus) ++ (flat (taskLines p) (rising p) ++ allLine p))
 
--- `refused` number line
-unfoldable pub refusedLine : Refusal → ℕ → List ℕ
-refusedLine r l = line (wRefused ∷ decimal (numberOf r) ∷ decimal l ∷ [])
+-- `refused` number line, and the field
+unfoldable pub refusedLine : Complaint → List ℕ
+refusedLine c = line (wRefused ∷ decimal (numberOf (c .number)) ∷ decimal (c .line) ∷ decimal (c .field) ∷ [])
 
 abbrev pub readText : Reading → List ℕ
 readText (Accepts p) = listing (system p)
-readText (Refuses r l) = refusedLine r l
+readText (Refuses c) = refusedLine c
 
--- "input above 65,536 bytes is not judged and prints `refused 8 0`"
+-- "input above 65,536 bytes is not judged and prints `refused 8 0`", with field 0
 unfoldable pub verdictText : List ℕ → List ℕ
-verdictText s = elim (ltb maxInput (length s)) [ true ↦ refusedLine Room 0 | false ↦ readText (reading s) ]
+verdictText s = elim (ltb maxInput (length s)) [ true ↦ refusedLine noRoom | false ↦ readText (reading s) ]

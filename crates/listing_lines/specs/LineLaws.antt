@@ -9,7 +9,7 @@ use Rattle.laws.specs.Bytes.{joined}
 use Rattle.laws.specs.Decimal.{decimal}
 use Rattle.search.specs.declared.Answer.{Answer}
 use Rattle.search.specs.declared.Answer.the-variants.{Fits, Late}
-use Rattle.plan.specs.declared.Refusal.{Refusal}
+use Rattle.plan.specs.declared.Complaint.{Complaint}
 use Rattle.plan.specs.Refusals.{numberOf}
 use Rattle.plan.specs.declared.Lock.{Lock}
 use Rattle.plan.specs.Plan.{Vcpu, Task}
@@ -81,13 +81,13 @@ pub task-rest :
     Joins (rest (taskFields a)) (tabbed (answerWord (p .kind))) (rest (numberOr (eqb (p .kind) 1) (p .ticks) dash ∷ decimal (p .rounds) ∷ []))
 task-rest a e = rw e (record { is = rw (task-fields a) (rest-more _ _) })
 
-pub refused-text : (r : Refusal) (l : ℕ) {n : ℕ} → n ≡ numberOf r → refusedLine r l ≡ line (wRefused ∷ decimal n ∷ decimal l ∷ [])
+pub refused-text : (c : Complaint) {n : ℕ} → n ≡ numberOf (c .number) → refusedLine c ≡ line (wRefused ∷ decimal n ∷ decimal (c .line) ∷ decimal (c .field) ∷ [])
 unfolding refusedLine
-refused-text r l e = rw e
+refused-text c e = rw e
 
 pub refused-joins :
-    (r : Refusal) (l : ℕ) {n : ℕ} → n ≡ numberOf r → Joins (refusedLine r l) (wRefused ++ tabbed (decimal n)) (rest (decimal l ∷ []))
-refused-joins r l {n} e = rw (refused-text r l e) (line-two wRefused (decimal n) (decimal l ∷ []))
+    (c : Complaint) {n : ℕ} → n ≡ numberOf (c .number) → Joins (refusedLine c) ((wRefused ++ tabbed (decimal n)) ++ tabbed (decimal (c .line))) (rest (decimal (c .field) ∷ []))
+refused-joins c {n} e = rw (refused-text c e) (line-three wRefused (decimal n) (decimal (c .line)) (decimal (c .field) ∷ []))
 
 -- a word that is picked by an answer's kind
 pub answer-word :

@@ -1,5 +1,6 @@
 // The listing's lines, each written at the start of a lent buffer, and their sizes. The texts are those of specs/Lines.
 use figures::TaskAnswer;
+use plan::Complaint;
 use plan::Refusal;
 use search::Answer;
 ghost use mathlib.Core.Path.{_≡_};
@@ -161,13 +162,14 @@ pub fn all_line(out: &mut [u8], fits: bool) -> usize
 }
 
 // Writes the one line of a refused plan.
-pub fn refused_line(out: &mut [u8], r: Refusal, l: u64) -> usize
-    requires { ⌜ length (refusedLine r l) ≤ length (now out) ⌝ }
-    ensures { λ s. ⌜ Wrote (refusedLine r l) (now (out .entry)) (now (out .exit)) s ⌝ }
+pub fn refused_line(out: &mut [u8], c: Complaint) -> usize
+    requires { ⌜ length (refusedLine c) ≤ length (now out) ⌝ }
+    ensures { λ s. ⌜ Wrote (refusedLine c) (now (out .entry)) (now (out .exit)) s ⌝ }
 {
+    let r = c.number;
     let n = number_of(r);
-    let k = text_letters::word_one(out, b"refused", n);
-    k + text_letters::last_rest(&mut out[k..], l)
+    let k = text_letters::word_two(out, b"refused", n, c.line as u64);
+    k + text_letters::last_rest(&mut out[k..], c.field)
 }
 
 fn answer_size(c: u64) -> usize
@@ -238,11 +240,13 @@ pub fn all_size(fits: bool) -> usize
     9
 }
 
-pub fn refused_size(r: Refusal, l: u64) -> usize
-    ensures { λ s. ⌜ Sized (refusedLine r l) 50 s ⌝ }
+pub fn refused_size(c: Complaint) -> usize
+    ensures { λ s. ⌜ Sized (refusedLine c) 71 s ⌝ }
 {
+    let r = c.number;
     let n = number_of(r);
     let x = text_letters::number_size(n);
-    let y = text_letters::number_size(l);
-    x + (y + 1 + 1) + 1 + 7
+    let y = text_letters::number_size(c.line as u64);
+    let z = text_letters::number_size(c.field);
+    x + (y + (z + 1 + 1) + 1) + 1 + 7
 }

@@ -3,6 +3,7 @@ use Prim.Native.Nat.{ℕ, suc, _+_, _*_, _≤_, _<_}
 use mathlib.Core.Path.{_≡_, refl}
 use mathlib.Core.Bool.{Bool, true, false, cond, _&&_}
 use mathlib.Core.List.{List, [], _∷_, _++_}
+use mathlib.Core.Option.{Option}
 use native.Mathlib.Nat.{le-trans}
 use native.Mathlib.Omega.{arith}
 use borrow.Author.Tests.{ltb-false}
@@ -17,12 +18,13 @@ use Rattle.search.specs.declared.Answer.the-variants.{Fits, Late}
 use Rattle.search.specs.Search.{Demand, Right, solve}
 use Rattle.search.specs.SearchLaws.{few-rounds, solve-right}
 use Rattle.plan.specs.Limits.{maxV, maxN, maxPeriod, maxTasks, maxLocks, maxInput, lf}
-use Rattle.plan.specs.Line.{wOne, itemOf}
+use Rattle.plan.specs.Line.{Item, wOne, itemOf}
 use Rattle.plan.specs.declared.Refusal.{Refusal}
 use Rattle.plan.specs.declared.Refusal.the-variants.{Shape, Number, Range, Order, Missing, Outside, TooMany, Room, Foreign, Unknown, Unlisted, Asleep, Busy, NotHolder, Supply}
 use Rattle.plan.specs.declared.Fault.{Fault}
 use Rattle.plan.specs.declared.Fault.the-variants.{Clear, Bad}
-use Rattle.plan.specs.Refusals.{numberOf}
+use Rattle.plan.specs.declared.Complaint.{Complaint}
+use Rattle.plan.specs.Refusals.{complaint, noRoom, numberOf}
 use Rattle.plan.specs.declared.Lock.{Lock}
 use Rattle.plan.specs.Plan.{Vcpu, Task, Plan}
 use Rattle.plan.specs.Reading.{Judge, Verdict, Faultless, FirstBad, faultOf, nextOf, finish, onward, judge, Reading, Accepts, Refuses, answer, readingBy, rules, reading}
@@ -30,6 +32,7 @@ use Rattle.plan.specs.Gathered.{planOf, itemsIn}
 use Rattle.plan.specs.Rules.{start}
 use Rattle.plan.specs.Valid.{Valid}
 use Rattle.plan.specs.Accepted.{read-text}
+use Rattle.plan_fields.specs.Few.{field-few}
 use Rattle.plan_tables.specs.RisingLaws.{rising-few}
 use Rattle.plan_tables.specs.GivenLaws.{tasks-valid}
 use Rattle.figures.specs.System.{System, system}
@@ -217,9 +220,9 @@ number-small Busy = omega arith
 number-small NotHolder = omega arith
 number-small Supply = omega arith
 
-pub refused-bound : (r : Refusal) (l : ℕ) → l < 10000000 → length (refusedLine r l) ≤ 19
+pub refused-bound : (c : Complaint) → c .line < 10000000 → c .field ≤ 6 → length (refusedLine c) ≤ 21
 unfolding refusedLine sum
-refused-bound r l h = rw line-length (omega (arith, two-digits (number-small r), seven-digits h))
+refused-bound c h k = rw line-length (omega (arith, two-digits (number-small (c .number)), seven-digits h, one-digit {n = c .field} (omega arith)))
 
 -- there is at most one piece more than bytes
 pieces-length : (b : ℕ) (s : List ℕ) → length (pieces b s) ≤ length s + 1
@@ -235,39 +238,39 @@ pieces-length b (x ∷ s) = go (eqb x b) (pieces b s) (pieces-length b s)
 -- the line that is refused, where one is, is at most b
 abbrev Upto : ℕ → Verdict → Type 0
 Upto b Faultless = Unit {0}
-Upto b (FirstBad r l) = l ≤ b
+Upto b (FirstBad c) = c .line ≤ b
 
 module _ (J : Judge) where
   finish-line : (t : J .Seen) (l : List ℕ) (n b : ℕ) → n ≤ b → Upto b (finish J t l n)
   finish-line t l n b h = go (J .ready t && isNil l)
     where
-      go : (q : Bool) → Upto b (cond q Faultless (FirstBad Shape n))
+      go : (q : Bool) → Upto b (cond q Faultless (FirstBad (complaint Shape n 0)))
       go true = tt
       go false = h
 
-  onward-line : (f : Fault) (n b : ℕ) (v : Verdict) → n ≤ b → Upto b v → Upto b (onward J f n v)
-  onward-line Clear n b v h k = k
-  onward-line (Bad r) n b v h k = h
+  onward-line : (t : J .Seen) (o : Option Item) (f : Fault) (n b : ℕ) (v : Verdict) → n ≤ b → Upto b v → Upto b (onward J t o f n v)
+  onward-line t o Clear n b v h k = k
+  onward-line t o (Bad r) n b v h k = h
 
   judge-line : (t : J .Seen) (n b : ℕ) (ls : List (List ℕ)) → n + length ls ≤ b → Upto b (judge J t n ls)
   unfolding judge
   judge-line t n b [] h = omega arith
   judge-line t n b (l ∷ ls) h =
       go (isNil ls) (finish J t l n) _ (finish-line t l n b (omega arith))
-      (onward-line (faultOf J t (itemOf l)) n b _ (omega arith) (judge-line (nextOf J t (itemOf l)) (n + 1) b ls (omega arith)))
+      (onward-line t (itemOf l) (faultOf J t (itemOf l)) n b _ (omega arith) (judge-line (nextOf J t (itemOf l)) (n + 1) b ls (omega arith)))
     where
       go : (q : Bool) (u v : Verdict) → Upto b u → Upto b v → Upto b (cond q u v)
       go true u v h k = h
       go false u v h k = k
 
 -- no later line is refused than there are bytes, and two more
-pub refused-line : (s : List ℕ) (r : Refusal) (l : ℕ) → reading s ≡ Refuses r l → l ≤ length s + 2
+pub refused-line : (s : List ℕ) (c : Complaint) → reading s ≡ Refuses c → c .line ≤ length s + 2
 unfolding readingBy
-refused-line s r l e = go (judge rules start 1 (pieces lf s)) (judge-line rules start 1 (length s + 2) (pieces lf s) (omega (arith, pieces-length lf s))) e
+refused-line s c e = go (judge rules start 1 (pieces lf s)) (judge-line rules start 1 (length s + 2) (pieces lf s) (omega (arith, pieces-length lf s))) e
   where
-    go : (v : Verdict) → Upto (length s + 2) v → answer v (planOf (itemsIn (pieces lf s))) ≡ Refuses r l → l ≤ length s + 2
+    go : (v : Verdict) → Upto (length s + 2) v → answer v (planOf (itemsIn (pieces lf s))) ≡ Refuses c → c .line ≤ length s + 2
     go Faultless h q = absurd (let z : _≡_ {A = ℕ} 0 1 = cc in omega arith)
-    go (FirstBad f m) h q = let z : m ≡ l = cc in omega arith
+    go (FirstBad d) h q = let z : d .line ≡ c .line = cc in omega arith
 
 -- EVERY VERDICT, of whatever bytes
 
@@ -276,12 +279,12 @@ read-bound s h = go (reading s) refl
   where
     go : (r : Reading) → reading s ≡ r → length (readText r) ≤ 16803
     go (Accepts p) e = listing-bound (system p) (valid-small p (read-text s p e .0))
-    go (Refuses r l) e = omega (arith, refused-bound r l (omega (arith, refused-line s r l e)))
+    go (Refuses c) e = omega (arith, refused-bound c (omega (arith, refused-line s c e)) (field-few s c e))
 
 pub verdict-bound : (s : List ℕ) → length (verdictText s) ≤ 16803
 unfolding verdictText
 verdict-bound s = go (ltb maxInput (length s)) refl
   where
-    go : (b : Bool) → ltb maxInput (length s) ≡ b → length {A = ℕ} (elim b [ true ↦ refusedLine Room 0 | false ↦ readText (reading s) ]) ≤ 16803
-    go true e = omega (arith, refused-bound Room 0 (omega arith))
+    go : (b : Bool) → ltb maxInput (length s) ≡ b → length {A = ℕ} (elim b [ true ↦ refusedLine noRoom | false ↦ readText (reading s) ]) ≤ 16803
+    go true e = omega (arith, refused-bound noRoom (omega arith) (omega arith))
     go false e = read-bound s (ltb-false maxInput (length s) e)

@@ -57,7 +57,7 @@ module _ (J : Judge) (t : J .Seen) where
             let z : planOf is ≡ p = cc in
             let y : itemsOf p ≡ is = ap itemsOf (sym z) ∙ items-plan is (rw (P .starts) at (passes-follow t is (r .1))) in
             (rw y (r .1), r .0 ∙ ap textOf (sym y))
-        go (FirstBad n l) e q = absurd (let z : _≡_ {A = ℕ} 0 1 = cc in omega arith)
+        go (FirstBad c) e q = absurd (let z : _≡_ {A = ℕ} 0 1 = cc in omega arith)
 
 -- FOR THE RULES, which keep the phase
 learn-phase : (q : ℕ) (t : Known) (k : Kind) (ns : List ℕ) → learn q t k ns .phase ≡ q

@@ -10,7 +10,7 @@ use Rattle.laws.specs.BoolLaws.{both}
 use Rattle.laws.specs.Bytes.{pieces, isNil}
 use Rattle.laws.specs.BytesLaws.{lacks, eachLacks, pieces-ended, ended-pieces}
 use Rattle.plan.specs.Limits.{lf}
-use Rattle.plan.specs.Refusals.{Refusal, Shape, Fault, Clear, Bad, unless}
+use Rattle.plan.specs.Refusals.{complaint, Refusal, Shape, Fault, Clear, Bad, unless}
 use Rattle.plan.specs.Line.{Item, shape, written, itemOf, lineOf}
 use Rattle.plan.specs.Text.{linesOf, textOf}
 use Rattle.plan.specs.Reading.{Judge, Faultless, FirstBad, fault, faultOf, nextOf, onward, judge, Passes}
@@ -71,7 +71,7 @@ module _ (J : Judge) where
   lines-judged t n (l ∷ []) h = go (J .ready t) refl (isNil l) refl h
     where
       go :
-          (a : Bool) → J .ready t ≡ a → (b : Bool) → isNil l ≡ b → cond (a && b) Faultless (FirstBad Shape n) ≡ Faultless →
+          (a : Bool) → J .ready t ≡ a → (b : Bool) → isNil l ≡ b → cond (a && b) Faultless (FirstBad (complaint Shape n 0)) ≡ Faultless →
           (_≡_ {A = List (List ℕ)} (l ∷ []) ([] ∷ [])) × (J .ready t ≡ true)
       go true e true f h = (cc (nil-is l f), e)
       go true e false f h = absurd (let z : _≡_ {A = ℕ} 0 1 = cc in omega arith)
@@ -81,7 +81,7 @@ module _ (J : Judge) where
     where
       go :
           (o : Option Item) → itemOf l ≡ o → (f : Fault) → faultOf J t o ≡ f →
-          onward J f n (judge J (nextOf J t o) (n + 1) (m ∷ ls)) ≡ Faultless →
+          onward J t o f n (judge J (nextOf J t o) (n + 1) (m ∷ ls)) ≡ Faultless →
           (judge J (nextOf J t o) (n + 1) (m ∷ ls) ≡ Faultless → (m ∷ ls ≡ linesOf (itemsIn (m ∷ ls)) ++ ([] ∷ [])) × Passes J (nextOf J t o) (itemsIn (m ∷ ls))) →
           (l ∷ m ∷ ls ≡ linesOf (push o (itemsIn (m ∷ ls))) ++ ([] ∷ [])) × Passes J t (push o (itemsIn (m ∷ ls)))
       go none e Clear f h ih = absurd (let z : _≡_ {A = ℕ} 0 1 = cc in omega arith)

@@ -21,3 +21,4 @@ pub mod Simulated
 pub mod Accepted
 pub mod FirstFault
 pub mod LowestFault
+pub mod Fields

@@ -1,5 +1,5 @@
 -- The lines of a plan and of events: which kinds there are, how each is written, and what a line says.
-use Prim.Native.Nat.{ℕ, suc, _^_}
+use Prim.Native.Nat.{ℕ, suc, _+_, _^_}
 use mathlib.Core.List.{List, [], _∷_, tail}
 use mathlib.Core.Option.{Option, some, none}
 use mathlib.Core.Bool.{Bool, true, false, cond, _&&_}
@@ -157,7 +157,7 @@ pub record Item : Type 0 where
   pub kind : Kind
   pub nums : List ℕ
 
--- what a number field says that is not written as it should be: more than any field of 7 digits
+-- what a number field says that is not written as it should be is this or more: more than any field of 7 digits
 abbrev pub bad : ℕ
 bad = 10 ^ maxDigits
 
@@ -173,12 +173,16 @@ hasShape (p ∷ ps) [] = false
 hasShape (Word w ∷ ps) (f ∷ fs) = same f w && hasShape ps fs
 hasShape (Num ∷ ps) (f ∷ fs) = hasShape ps fs
 
--- the numbers that fields of a shape say
-unfoldable pub numbers : List Form → List (List ℕ) → List ℕ
-numbers [] fs = []
-numbers (p ∷ ps) [] = []
-numbers (Word w ∷ ps) (f ∷ fs) = numbers ps fs
-numbers (Num ∷ ps) (f ∷ fs) = value maxDigits f ∷ numbers ps fs
+-- the number that field k says; where it is not written as it should be, `bad` and the field
+unfoldable pub numberAt : ℕ → List ℕ → ℕ
+numberAt k f = cond (ltb (value maxDigits f) bad) (value maxDigits f) (bad + k)
+
+-- the numbers that fields of a shape say, from field k on
+unfoldable pub numbers : ℕ → List Form → List (List ℕ) → List ℕ
+numbers k [] fs = []
+numbers k (p ∷ ps) [] = []
+numbers k (Word w ∷ ps) (f ∷ fs) = numbers (k + 1) ps fs
+numbers k (Num ∷ ps) (f ∷ fs) = numberAt k f ∷ numbers (k + 1) ps fs
 
 -- the fields of a shape that say these numbers
 unfoldable pub fieldsOf : List Form → List ℕ → List (List ℕ)
@@ -193,7 +197,7 @@ kindIn (k ∷ ks) fs = cond (hasShape (shape k) fs) (Is k) (kindIn ks fs)
 
 abbrev pub itemFrom : List (List ℕ) → Found → Option Item
 itemFrom fs Nothing = none
-itemFrom fs (Is k) = some (record { kind = k; nums = numbers (shape k) fs })
+itemFrom fs (Is k) = some (record { kind = k; nums = numbers 1 (shape k) fs })
 
 -- what a line says, if it has a kind
 unfoldable pub itemOf : List ℕ → Option Item

@@ -89,6 +89,24 @@ pub enum Fault {
     Bad(Refusal),
 }
 
+// A plan's refusal: its number, the line, and the field of that line, 0 for none.
+pub struct Complaint {
+    pub number: Refusal,
+    pub line: usize,
+    pub field: u64,
+}
+
+// 8 is given for no line: line 0, field 0.
+pub fn no_room() -> Complaint
+    ensures { λ c. ⌜ c ≡ refusals.noRoom ⌝ }
+{
+    Complaint {
+        number: Refusal::Room,
+        line: 0,
+        field: 0,
+    }
+}
+
 // The kinds of lines: those of a plan in its order, then those of events.
 pub enum Kind {
     PlanLine,

@@ -8,7 +8,7 @@ use lib.ListN.{length}
 use Rattle.laws.specs.Bytes.{pieces}
 use Rattle.laws.specs.Choice.{if_then_else_}
 use Rattle.plan.specs.Limits.{lf, maxV, maxGuest, maxM, mostTasks}
-use Rattle.plan.specs.declared.Refusal.the-variants.{Room}
+use Rattle.plan.specs.Refusals.{noRoom}
 use Rattle.plan.specs.Plan.{Plan}
 use Rattle.plan.specs.Valid.{Valid}
 use Rattle.plan.specs.Reading.{Reading, Accepts, Refuses, reading}
@@ -48,8 +48,8 @@ unfolding planAnswer
 ample-answer s t a = judged-reading s ∙ go (reading s) refl
   where
     go : (x : Reading) → reading s ≡ x → roomless x ≡ answerInto x t
-    go (Accepts p) e = sym (ap (λ b. if b then Accepted (recordOf p) else Refused Room 0) (ample-roomy p t (read-text s p e .0) a))
-    go (Refuses x l) e = refl
+    go (Accepts p) e = sym (ap (λ b. if b then Accepted (recordOf p) else Refused noRoom) (ample-roomy p t (read-text s p e .0) a))
+    go (Refuses x) e = refl
 
 -- the lines of an accepted plan leave what the reading leaves, in any tables with room
 pub accepted-left :

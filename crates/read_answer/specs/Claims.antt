@@ -10,8 +10,9 @@ use lib.Seq.{drop-at}
 use Rattle.laws.specs.Sums.{flat, Each}
 use Rattle.laws.specs.SumLaws.{each-map}
 use Rattle.laws.specs.Choice.{if_then_else_}
-use Rattle.plan.specs.declared.Refusal.{Refusal}
 use Rattle.plan.specs.declared.Refusal.the-variants.{Room}
+use Rattle.plan.specs.declared.Complaint.{Complaint}
+use Rattle.plan.specs.Refusals.{noRoom}
 use Rattle.plan.specs.Plan.{Task, Plan, tasksOf}
 use Rattle.plan.specs.Text.{text}
 use Rattle.plan.specs.Valid.{Valid}
@@ -67,47 +68,43 @@ module _ (s : List ℕ) (t : Tables) where
   accepted-why r h = go (reading s) refl h
     where
       at :
-          (p : Plan) → reading s ≡ Accepts p → (b : Bool) → roomy (recordOf p) t ≡ b → (if b then Accepted (recordOf p) else Refused Room 0) ≡ Accepted r →
+          (p : Plan) → reading s ≡ Accepts p → (b : Bool) → roomy (recordOf p) t ≡ b → (if b then Accepted (recordOf p) else Refused noRoom) ≡ Accepted r →
           (p : Plan) × WithRoom s t r p
       at p e true q h = let z : recordOf p ≡ r = cc in (p, record { reads = e; room = q; recorded = sym z })
       at p e false q h = absurd (let z : _≡_ {A = ℕ} 0 1 = cc in omega arith)
 
       go : (x : Reading) → reading s ≡ x → answerInto x t ≡ Accepted r → (p : Plan) × WithRoom s t r p
       go (Accepts p) e h = at p e (roomy (recordOf p) t) refl h
-      go (Refuses x l) e h = absurd (let z : _≡_ {A = ℕ} 0 1 = cc in omega arith)
+      go (Refuses x) e h = absurd (let z : _≡_ {A = ℕ} 0 1 = cc in omega arith)
 
   room-accepted : (r : PlanRecord) (p : Plan) → WithRoom s t r p → planAnswer s t ≡ Accepted r
   unfolding planAnswer
   room-accepted r p h =
-      ap (λ x. answerInto x t) (h .reads) ∙ ap (λ b. if b then Accepted (recordOf p) else Refused Room 0) (h .room) ∙ ap Accepted (sym (h .recorded))
+      ap (λ x. answerInto x t) (h .reads) ∙ ap (λ b. if b then Accepted (recordOf p) else Refused noRoom) (h .room) ∙ ap Accepted (sym (h .recorded))
 
-  refused-why : (x : Refusal) (l : ℕ) → planAnswer s t ≡ Refused x l → (reading s ≡ Refuses x l) ⊎ ((x ≡ Room) × (l ≡ 0) × ((p : Plan) × Lacks s t p))
+  refused-why : (x : Complaint) → planAnswer s t ≡ Refused x → (reading s ≡ Refuses x) ⊎ ((x ≡ noRoom) × ((p : Plan) × Lacks s t p))
   unfolding planAnswer
-  refused-why x l h = go (reading s) refl h
+  refused-why x h = go (reading s) refl h
     where
       at :
-          (p : Plan) → reading s ≡ Accepts p → (b : Bool) → roomy (recordOf p) t ≡ b → (if b then Accepted (recordOf p) else Refused Room 0) ≡ Refused x l →
-          (reading s ≡ Refuses x l) ⊎ ((x ≡ Room) × (l ≡ 0) × ((p : Plan) × Lacks s t p))
+          (p : Plan) → reading s ≡ Accepts p → (b : Bool) → roomy (recordOf p) t ≡ b → (if b then Accepted (recordOf p) else Refused noRoom) ≡ Refused x →
+          (reading s ≡ Refuses x) ⊎ ((x ≡ noRoom) × ((p : Plan) × Lacks s t p))
       at p e true q h = absurd (let z : _≡_ {A = ℕ} 0 1 = cc in omega arith)
       at p e false q h =
-          let a : Room ≡ x = cc in
-          let b : 0 ≡ l = cc in
-          inr (sym a, sym b, (p, record { reads = e; room = q }))
+          let a : noRoom ≡ x = cc in
+          inr (sym a, (p, record { reads = e; room = q }))
 
-      go : (y : Reading) → reading s ≡ y → answerInto y t ≡ Refused x l → (reading s ≡ Refuses x l) ⊎ ((x ≡ Room) × (l ≡ 0) × ((p : Plan) × Lacks s t p))
+      go : (y : Reading) → reading s ≡ y → answerInto y t ≡ Refused x → (reading s ≡ Refuses x) ⊎ ((x ≡ noRoom) × ((p : Plan) × Lacks s t p))
       go (Accepts p) e h = at p e (roomy (recordOf p) t) refl h
-      go (Refuses y k) e h =
-          let a : y ≡ x = cc in
-          let b : k ≡ l = cc in
-          inl (e ∙ ap (λ y. Refuses y k) a ∙ ap (Refuses x) b)
+      go (Refuses y) e h = let a : y ≡ x = cc in inl (e ∙ ap Refuses a)
 
   -- "Every refusal leaves the lent tables .. as they were lent"
-  pub refusal-leaves : (x : Refusal) (l : ℕ) → planAnswer s t ≡ Refused x l → tablesAfter s t ≡ t
-  refusal-leaves x l h = go (refused-why x l h)
+  pub refusal-leaves : (x : Complaint) → planAnswer s t ≡ Refused x → tablesAfter s t ≡ t
+  refusal-leaves x h = go (refused-why x h)
     where
-      go : (reading s ≡ Refuses x l) ⊎ ((x ≡ Room) × (l ≡ 0) × ((p : Plan) × Lacks s t p)) → tablesAfter s t ≡ t
-      go (inl e) = after-refused s t x l e
-      go (inr e) = after-kept s t (e .2 .0) (e .2 .1 .reads) (e .2 .1 .room)
+      go : (reading s ≡ Refuses x) ⊎ ((x ≡ noRoom) × ((p : Plan) × Lacks s t p)) → tablesAfter s t ≡ t
+      go (inl e) = after-refused s t x e
+      go (inr e) = after-kept s t (e .1 .0) (e .1 .1 .reads) (e .1 .1 .room)
 
   -- "An accepted plan leaves table rows beyond its count untouched"
   pub record Beyond (r : PlanRecord) (u : Tables) : Type 0 where
@@ -139,14 +136,14 @@ module _ (s : List ℕ) (t : Tables) where
   -- what each answer leaves
   abbrev pub LeftBy : PlanAnswer → Type 0
   LeftBy (Accepted r) = Beyond r (tablesAfter s t)
-  LeftBy (Refused x l) = tablesAfter s t ≡ t
+  LeftBy (Refused x) = tablesAfter s t ≡ t
 
   pub answer-leaves : LeftBy (planAnswer s t)
   answer-leaves = go (planAnswer s t) refl
     where
       go : (a : PlanAnswer) → planAnswer s t ≡ a → LeftBy a
       go (Accepted r) h = acceptance-leaves r h
-      go (Refused x l) h = refusal-leaves x l h
+      go (Refused x) h = refusal-leaves x h
 
   -- accepted with room exactly when it is the text of a valid plan, and then the plan is that one
   pub accepted-with-room : (r : PlanRecord) → (planAnswer s t ≡ Accepted r) ↔ ((p : Plan) × Valid p × (s ≡ text p) × Roomy (recordOf p) t × (r ≡ recordOf p))
@@ -161,20 +158,20 @@ module _ (s : List ℕ) (t : Tables) where
   )
 
   -- a refusal by another number than 8 is the reading's
-  pub refused-reading : (x : Refusal) (l : ℕ) → (x ≡ Room → ⊥) → (planAnswer s t ≡ Refused x l) ↔ (reading s ≡ Refuses x l)
+  pub refused-reading : (x : Complaint) → (x .number ≡ Room → ⊥) → (planAnswer s t ≡ Refused x) ↔ (reading s ≡ Refuses x)
   unfolding planAnswer
-  refused-reading x l n = (λ h. ⊎-elim (λ e. e) (λ e. absurd (n (e .0))) (refused-why x l h), λ e. ap (λ y. answerInto y t) e)
+  refused-reading x n = (λ h. ⊎-elim (λ e. e) (λ e. absurd (n (ap (λ (y : Complaint). y .number) (e .0)))) (refused-why x h), λ e. ap (λ y. answerInto y t) e)
 
-  -- a plan with no fault and no room is refused by 8, at line 0
-  pub room-refused : (p : Plan) → Lacks s t p → planAnswer s t ≡ Refused Room 0
+  -- a plan with no fault and no room is refused by 8, at line 0 and field 0
+  pub room-refused : (p : Plan) → Lacks s t p → planAnswer s t ≡ Refused noRoom
   unfolding planAnswer
-  room-refused p h = ap (λ x. answerInto x t) (h .reads) ∙ ap (λ b. if b then Accepted (recordOf p) else Refused Room 0) (h .room)
+  room-refused p h = ap (λ x. answerInto x t) (h .reads) ∙ ap (λ b. if b then Accepted (recordOf p) else Refused noRoom) (h .room)
 
   -- and 8 is given for no other reason
-  pub room-exactly : (l : ℕ) → (planAnswer s t ≡ Refused Room l) ↔ ((l ≡ 0) × ((p : Plan) × Lacks s t p))
-  room-exactly l = (
-    λ h. ⊎-elim (λ e. absurd (never-room s l e)) (λ e. (e .1, e .2)) (refused-why Room l h),
-    λ h. room-refused (h .1 .0) (h .1 .1) ∙ ap (Refused Room) (sym (h .0)),
+  pub room-exactly : (x : Complaint) → x .number ≡ Room → (planAnswer s t ≡ Refused x) ↔ ((x ≡ noRoom) × ((p : Plan) × Lacks s t p))
+  room-exactly x r = (
+    λ h. ⊎-elim (λ e. absurd (never-room s x r e)) (λ e. e) (refused-why x h),
+    λ h. room-refused (h .1 .0) (h .1 .1) ∙ ap Refused (sym (h .0)),
   )
 
   -- what an accepted call leaves is what the plan gives

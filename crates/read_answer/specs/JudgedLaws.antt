@@ -16,12 +16,14 @@ use Rattle.plan.specs.declared.Kind.{Kind}
 use Rattle.plan.specs.declared.Found.{Found}
 use Rattle.plan.specs.declared.Found.the-variants.{Is, Nothing}
 use Rattle.plan.specs.declared.Refusal.{Refusal}
-use Rattle.plan.specs.declared.Refusal.the-variants.{Shape, Room}
+use Rattle.plan.specs.declared.Refusal.the-variants.{Shape}
+use Rattle.plan.specs.declared.Complaint.{Complaint}
+use Rattle.plan.specs.Refusals.{complaint, noRoom}
 use Rattle.plan.specs.declared.Fault.{Fault}
 use Rattle.plan.specs.declared.Fault.the-variants.{Clear, Bad}
 use Rattle.plan.specs.Line.{shape, hasShape, kindIn, itemOf}
 use Rattle.plan.specs.Plan.{Plan}
-use Rattle.plan.specs.Reading.{Verdict, Faultless, FirstBad, judge, fault, faultOf, nextOf, onward, answer, Reading, Accepts, Refuses, readingBy, reading}
+use Rattle.plan.specs.Reading.{Verdict, Faultless, FirstBad, judge, fault, faultOf, fieldAt, nextOf, onward, answer, Reading, Accepts, Refuses, readingBy, reading}
 use Rattle.plan.specs.Gathered.{itemsIn, planOf}
 use Rattle.plan.specs.Accepted.{read-text}
 use Rattle.plan_tables.specs.declared.PlanRecord.{PlanRecord}
@@ -44,7 +46,7 @@ use Rattle.read_tally.specs.TallyLaws.{text-record}
 use Rattle.read_fill.specs.Fill.{filledBy, vcpuPut, mutexPut, openPut, taskPut}
 use Rattle.read_fill.specs.PlanLaws.{tablesBy, text-tables}
 use Rattle.read_answer.specs.Into.{PlanAnswer, Accepted, Refused, answerInto, tablesInto, planAnswer, tablesAfter}
-use Rattle.read_answer.specs.Judged.{answerBy, judgedFrom, refusedBy, finishBy, roomOr, withRoom, isAccepted, leftFrom, linesLeft, leftIf}
+use Rattle.read_answer.specs.Judged.{answerBy, judgedFrom, fieldBy, refusedBy, finishBy, roomOr, withRoom, isAccepted, leftFrom, linesLeft, leftIf}
 
 -- ONE LINE, the one that begins at `at`
 
@@ -56,7 +58,7 @@ item-nil : itemOf [] ≡ none
 unfolding itemOf pieces kindIn shape hasShape same
 item-nil = refl
 
-finish-by : (b : Bool) (c : Tally) (n : ℕ) → answerBy (cond b Faultless (FirstBad Shape n)) (recordIn c) ≡ finishBy b c n
+finish-by : (b : Bool) (c : Tally) (n : ℕ) → answerBy (cond b Faultless (FirstBad (complaint Shape n 0))) (recordIn c) ≡ finishBy b c n
 unfolding finishBy
 finish-by true c n = refl
 finish-by false c n = refl
@@ -80,16 +82,16 @@ module _ (s : List ℕ) (at : ℕ) (t : Seen) (c : Tally) (n : ℕ) where
 
     -- what follows, where the line has the fault f
     abbrev follows : Fault → PlanAnswer
-    follows f = answerBy (onward coded f n (judge coded (nextOf coded t (saidItem x)) (n + 1) rest)) (recordIn (tallied (tallyAfter c x) rest))
+    follows f = answerBy (onward coded t (saidItem x) f n (judge coded (nextOf coded t (saidItem x)) (n + 1) rest)) (recordIn (tallied (tallyAfter c x) rest))
 
     judged-step : judgedFrom t c n (pieces lf (drop at s)) ≡ follows (faultOf coded t (saidItem x))
     unfolding judgedFrom judge tallied
     judged-step = rw (ended-pieces s at h) (simp (pieces-some lf (drop (lineAt s at .next) s)) (rw (said-item (lineIn s at), line-said s at)))
 
-    pub judged-bad : isClear (faultOf coded t (saidItem x)) ≡ false → judgedFrom t c n (pieces lf (drop at s)) ≡ refusedBy (faultOf coded t (saidItem x)) n
+    pub judged-bad : isClear (faultOf coded t (saidItem x)) ≡ false → judgedFrom t c n (pieces lf (drop at s)) ≡ refusedBy (faultOf coded t (saidItem x)) n (fieldBy t (saidItem x) (faultOf coded t (saidItem x)))
     judged-bad q = judged-step ∙ go (faultOf coded t (saidItem x)) q
       where
-        go : (f : Fault) → isClear f ≡ false → follows f ≡ refusedBy f n
+        go : (f : Fault) → isClear f ≡ false → follows f ≡ refusedBy f n (fieldBy t (saidItem x) f)
         go Clear q = absurd (true≢false q)
         go (Bad y) q = refl
 
@@ -106,7 +108,7 @@ module _ (s : List ℕ) (at : ℕ) (t : Seen) (c : Tally) (n : ℕ) where
 -- the answer where there is room
 abbrev pub roomless : Reading → PlanAnswer
 roomless (Accepts p) = Accepted (recordOf p)
-roomless (Refuses x l) = Refused x l
+roomless (Refuses x) = Refused x
 
 pub judged-reading : (s : List ℕ) → judgedFrom start blank 1 (pieces lf s) ≡ roomless (reading s)
 unfolding judgedFrom readingBy
@@ -121,12 +123,12 @@ judged-reading s = go (judge coded start 1 (pieces lf s)) refl
         let q : reading s ≡ Accepts p = sym (same-reading s) ∙ ap (λ v. answer v p) e in
         let h = read-text s p q in
         ap (λ x. Accepted (recordIn (tallied blank (pieces lf x)))) (h .1) ∙ ap Accepted (text-record p (h .0)) ∙ ap roomless (sym q)
-    go (FirstBad x l) e =
+    go (FirstBad x) e =
         let p : Plan = planOf (itemsIn (pieces lf s)) in
-        let q : reading s ≡ Refuses x l = sym (same-reading s) ∙ ap (λ v. answer v p) e in
+        let q : reading s ≡ Refuses x = sym (same-reading s) ∙ ap (λ v. answer v p) e in
         ap roomless (sym q)
 
-room-or : (r : PlanRecord) (b : Bool) → roomOr b r ≡ (if b then Accepted r else Refused Room 0)
+room-or : (r : PlanRecord) (b : Bool) → roomOr b r ≡ (if b then Accepted r else Refused noRoom)
 unfolding roomOr
 room-or r true = refl
 room-or r false = refl
@@ -138,7 +140,7 @@ room-answer s t = go (reading s)
   where
     go : (x : Reading) → withRoom (roomless x) (length (t .vcpus)) (length (t .mutexes)) (length (t .opens)) (length (t .tasks)) ≡ answerInto x t
     go (Accepts p) = room-or (recordOf p) (roomy (recordOf p) t)
-    go (Refuses x l) = refl
+    go (Refuses x) = refl
 
 -- THE TABLES
 
@@ -150,9 +152,9 @@ pub after-kept : (s : List ℕ) (t : Tables) (p : Plan) → reading s ≡ Accept
 unfolding tablesAfter
 after-kept s t p e q = ap (λ x. tablesInto x t) e ∙ ap (λ b. if b then filled p t else t) q
 
-pub after-refused : (s : List ℕ) (t : Tables) (x : Refusal) (l : ℕ) → reading s ≡ Refuses x l → tablesAfter s t ≡ t
+pub after-refused : (s : List ℕ) (t : Tables) (x : Complaint) → reading s ≡ Refuses x → tablesAfter s t ≡ t
 unfolding tablesAfter
-after-refused s t x l e = ap (λ y. tablesInto y t) e
+after-refused s t x e = ap (λ y. tablesInto y t) e
 
 -- lines with no fault leave what lines write
 left-all :
@@ -169,7 +171,7 @@ left-all put t c d n (l ∷ k ∷ ls) e =
     next = nextOf coded t (saidItem (saidOf l))
 
     go :
-        (f : Fault) → onward coded f n (judge coded next (n + 1) (k ∷ ls)) ≡ Faultless →
+        (f : Fault) → onward coded t (saidItem (saidOf l)) f n (judge coded next (n + 1) (k ∷ ls)) ≡ Faultless →
         (judge coded next (n + 1) (k ∷ ls) ≡ Faultless →
         leftFrom put next (tallyAfter c (saidOf l)) (put c (saidOf l) d) (k ∷ ls) ≡ filledBy put (tallyAfter c (saidOf l)) (put c (saidOf l) d) (k ∷ ls)) →
         cond (isClear f) (leftFrom put next (tallyAfter c (saidOf l)) (put c (saidOf l) d) (k ∷ ls)) d ≡ filledBy put (tallyAfter c (saidOf l)) (put c (saidOf l) d) (k ∷ ls)
@@ -183,8 +185,8 @@ judged-clear s p e = go (judge coded start 1 (pieces lf s)) refl
   where
     go : (v : Verdict) → judge coded start 1 (pieces lf s) ≡ v → v ≡ Faultless
     go Faultless q = refl
-    go (FirstBad x l) q =
-        let h : Refuses x l ≡ Accepts p = sym (ap (λ v. answer v (planOf (itemsIn (pieces lf s)))) q) ∙ same-reading s ∙ e in
+    go (FirstBad x) q =
+        let h : Refuses x ≡ Accepts p = sym (ap (λ v. answer v (planOf (itemsIn (pieces lf s)))) q) ∙ same-reading s ∙ e in
         absurd (let z : _≡_ {A = ℕ} 0 1 = cc in omega arith)
 
 pub record Left (s : List ℕ) (t : Tables) (on : Bool) : Type 0 where
@@ -211,7 +213,7 @@ pub tables-left : (s : List ℕ) (t : Tables) → Left s t (isAccepted (planAnsw
 unfolding planAnswer
 tables-left s t = go (reading s) refl
   where
-    at : (p : Plan) → reading s ≡ Accepts p → (b : Bool) → roomy (recordOf p) t ≡ b → Left s t (isAccepted (if b then Accepted (recordOf p) else Refused Room 0))
+    at : (p : Plan) → reading s ≡ Accepts p → (b : Bool) → roomy (recordOf p) t ≡ b → Left s t (isAccepted (if b then Accepted (recordOf p) else Refused noRoom))
     at p e true q =
         let h = read-text s p e in
         left-filled s t (judged-clear s p e) (after-filled s t p e q ∙ sym (ap (λ x. tablesBy x t) (h .1) ∙ text-tables p (h .0) t (roomy-exactly (recordOf p) t .0 q)))
@@ -219,7 +221,7 @@ tables-left s t = go (reading s) refl
 
     go : (x : Reading) → reading s ≡ x → Left s t (isAccepted (answerInto x t))
     go (Accepts p) e = at p e (roomy (recordOf p) t) refl
-    go (Refuses x l) e = left-kept s t (after-refused s t x l e)
+    go (Refuses x) e = left-kept s t (after-refused s t x e)
 
 -- WHAT A LINE SAYS, by its kind
 module _ (t : Seen) (f : Found) (a b c d e : ℕ) where
@@ -229,6 +231,13 @@ module _ (t : Seen) (f : Found) (a b c d e : ℕ) where
 
   pub fault-nothing : f ≡ Nothing → Bad Shape ≡ faultOf coded t (said.itemAs f a b c d e)
   fault-nothing g = ap (λ f. faultOf coded t (said.itemAs f a b c d e)) (sym g)
+
+  pub field-found : (r : Refusal) (k : Kind) (z : ℕ) → z ≡ coded .field t (code.item k a b c d e) r → f ≡ Is k → z ≡ fieldAt coded t (said.itemAs f a b c d e) r
+  field-found r k z h g =
+      h ∙ ap (λ f. fieldAt coded t (said.itemAs f a b c d e) r) (sym g)
+
+  pub field-nothing : (r : Refusal) → f ≡ Nothing → 0 ≡ fieldAt coded t (said.itemAs f a b c d e) r
+  field-nothing r g = ap (λ f. fieldAt coded t (said.itemAs f a b c d e) r) (sym g)
 
   pub seen-found : (k : Kind) (z : Seen) → z ≡ coded .next t (code.item k a b c d e) → f ≡ Is k → z ≡ nextOf coded t (said.itemAs f a b c d e)
   seen-found k z h g =

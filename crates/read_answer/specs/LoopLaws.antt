@@ -21,7 +21,7 @@ use Rattle.judge_coded.specs.Coded.{coded}
 use Rattle.read_tally.specs.declared.Tally.{Tally}
 use Rattle.read_tally.specs.Tally.{tallyAfter}
 use Rattle.read_answer.specs.Into.{PlanAnswer}
-use Rattle.read_answer.specs.Judged.{judgedFrom, refusedBy, finishBy, leftFrom}
+use Rattle.read_answer.specs.Judged.{judgedFrom, fieldBy, refusedBy, finishBy, leftFrom}
 use Rattle.read_answer.specs.JudgedLaws.{judged-last, judged-bad, judged-next, line-some}
 
 -- r is what is read at a place of s, with the line's number n, after what is seen and tallied
@@ -63,10 +63,12 @@ module _ (s : List ℕ) (at n : ℕ) (r : Step) (er : r ≡ stepAt s at n) (t : 
   read-end b a h eb ea = ea ∙ rw (eb, er) (sym (judged-last s at t c n (sym ended-is ∙ h)))
 
   module _ (g : Fault) (h : r .line .ended ≡ true) (eg : g ≡ faultOf coded t (saidItem (r .line .said))) where
-    pub read-bad : (a : PlanAnswer) → isClear g ≡ false → a ≡ refusedBy g n → a ≡ judgedFrom t c n here
-    read-bad a q ea =
+    pub read-bad : (k : ℕ) (a : PlanAnswer) → isClear g ≡ false → k ≡ fieldBy t (saidItem (r .line .said)) g → a ≡ refusedBy g n k → a ≡ judgedFrom t c n here
+    unfolding stepAt
+    read-bad k a q ek ea =
         let e : g ≡ f = eg ∙ fault-is in
-        ea ∙ ap (λ f. refusedBy f n) e ∙ sym (judged-bad s at t c n (sym ended-is ∙ h) (ap isClear (sym e) ∙ q))
+        ea ∙ ap (refusedBy g n) (ek ∙ ap (λ r. fieldBy t (saidItem (r .line .said)) g) er) ∙ ap (λ f. refusedBy f n (fieldBy t (saidItem (lineAt s at .said)) f)) e
+        ∙ sym (judged-bad s at t c n (sym ended-is ∙ h) (ap isClear (sym e) ∙ q))
 
     pub read-next :
         (u : Seen) (v : Tally) → isClear g ≡ true → u ≡ nextOf coded t (saidItem (r .line .said)) → v ≡ tallyAfter c (r .line .said) →

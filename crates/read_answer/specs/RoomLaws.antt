@@ -16,7 +16,8 @@ use Rattle.plan.specs.declared.Refusal.the-variants.{Shape, Number, Room}
 use Rattle.plan.specs.declared.Fault.{Fault}
 use Rattle.plan.specs.declared.Fault.the-variants.{Clear, Bad}
 use Rattle.plan.specs.declared.Kind.{Kind}
-use Rattle.plan.specs.Refusals.{numberOf, unless}
+use Rattle.plan.specs.declared.Complaint.{Complaint}
+use Rattle.plan.specs.Refusals.{complaint, numberOf, unless}
 use Rattle.plan.specs.Line.{Item, itemOf}
 use Rattle.plan.specs.Rules.{Known, start, Test, firstFailed, testsOf, rule}
 use Rattle.plan.specs.Reading.{Verdict, Faultless, FirstBad, rules, fault, faultOf, nextOf, onward, judge, answer, Refuses, readingBy, reading}
@@ -55,7 +56,7 @@ fault-low t (some i) = unless-low _ Shape _ (omega arith) (unless-low _ Number _
 
 abbrev LowVerdict : Verdict → Type 0
 LowVerdict Faultless = Unit {0}
-LowVerdict (FirstBad r l) = numberOf r ≤ 7
+LowVerdict (FirstBad c) = numberOf (c .number) ≤ 7
 
 judge-low : (t : Known) (n : ℕ) (ls : List (List ℕ)) → LowVerdict (judge rules t n ls)
 unfolding judge numberOf
@@ -63,7 +64,7 @@ judge-low t n [] = omega arith
 judge-low t n (l ∷ ls) =
     go (isNil ls) (rules .ready t && isNil l) (faultOf rules t (itemOf l)) (fault-low t (itemOf l)) (judge rules (nextOf rules t (itemOf l)) (n + 1) ls) (judge-low (nextOf rules t (itemOf l)) (n + 1) ls)
   where
-    go : (a b : Bool) (f : Fault) → Low f → (v : Verdict) → LowVerdict v → LowVerdict (cond a (cond b Faultless (FirstBad Shape n)) (onward rules f n v))
+    go : (a b : Bool) (f : Fault) → Low f → (v : Verdict) → LowVerdict v → LowVerdict (cond a (cond b Faultless (FirstBad (complaint Shape n 0))) (onward rules t (itemOf l) f n v))
     go true true f h v k = tt
     go true false f h v k = omega arith
     go false b Clear h v k = k
@@ -73,10 +74,10 @@ room-high : numberOf Room ≤ 7 → ⊥
 unfolding numberOf
 room-high h = omega arith
 
-pub never-room : (s : List ℕ) (l : ℕ) → reading s ≡ Refuses Room l → ⊥
+pub never-room : (s : List ℕ) (x : Complaint) → x .number ≡ Room → reading s ≡ Refuses x → ⊥
 unfolding readingBy
-never-room s l h = go (judge rules start 1 (pieces lf s)) (judge-low start 1 (pieces lf s)) h
+never-room s x q h = go (judge rules start 1 (pieces lf s)) (judge-low start 1 (pieces lf s)) h
   where
-    go : (v : Verdict) → LowVerdict v → answer v (planOf (itemsIn (pieces lf s))) ≡ Refuses Room l → ⊥
+    go : (v : Verdict) → LowVerdict v → answer v (planOf (itemsIn (pieces lf s))) ≡ Refuses x → ⊥
     go Faultless k h = let z : _≡_ {A = ℕ} 0 1 = cc in omega arith
-    go (FirstBad r n) k h = let z : r ≡ Room = cc in room-high (rw z at k)
+    go (FirstBad c) k h = let z : c .number ≡ Room = cc in room-high (rw z at k)

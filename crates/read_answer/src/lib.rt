@@ -1,27 +1,38 @@
 // The answer to bytes offered as a plan. What it is for all bytes and tables stands in specs/Into; what lines judged one after the other answer and leave, in specs/Judged.
+use plan::Complaint;
 use plan::Fault;
 use plan::Refusal;
 use plan_tables::PlanRecord;
 use read_tally::Tally;
 ghost use mathlib.Core.Path.{_≡_};
+ghost use Rattle.plan.specs.Refusals.{complaint};
+ghost use Rattle.read_answer.specs.Into as into;
 ghost use Rattle.read_answer.specs.Judged as judged;
 
-// The answer to bytes offered as a plan: accepted with the plan record, or refused with number and line.
+// The answer to bytes offered as a plan: accepted with the plan record, or refused with number, line and field.
 pub enum PlanAnswer {
     Accepted(PlanRecord),
-    Refused { number: Refusal, line: usize },
+    Refused(Complaint),
 }
 
-// The refusal of line n, which has a fault.
-pub fn refused(f: Fault, n: usize) -> PlanAnswer
-    ensures { λ r. ⌜ r ≡ judged.refusedBy f n ⌝ }
+// The refusal by x, of line n and its field k.
+fn refuse(x: Refusal, n: usize, k: u64) -> PlanAnswer
+    ensures { λ r. ⌜ r ≡ into.Refused (complaint x n k) ⌝ }
+{
+    PlanAnswer::Refused(Complaint {
+        number: x,
+        line: n,
+        field: k,
+    })
+}
+
+// The refusal of line n, which has a fault in field k.
+pub fn refused(f: Fault, n: usize, k: u64) -> PlanAnswer
+    ensures { λ r. ⌜ r ≡ judged.refusedBy f n k ⌝ }
 {
     match f {
-        Fault::Clear => PlanAnswer::Refused {
-            number: Refusal::Shape,
-            line: n,
-        },
-        Fault::Bad(x) => PlanAnswer::Refused { number: x, line: n },
+        Fault::Clear => refuse(Refusal::Shape, n, k),
+        Fault::Bad(x) => refuse(x, n, k),
     }
 }
 
@@ -32,10 +43,7 @@ pub fn finish(ok: bool, t: Tally, n: usize) -> PlanAnswer
     if ok {
         PlanAnswer::Accepted(read_tally::record_of(t))
     } else {
-        PlanAnswer::Refused {
-            number: Refusal::Shape,
-            line: n,
-        }
+        refuse(Refusal::Shape, n, 0)
     }
 }
 
@@ -46,10 +54,7 @@ fn room_or(ok: bool, r: PlanRecord) -> PlanAnswer
     if ok {
         PlanAnswer::Accepted(r)
     } else {
-        PlanAnswer::Refused {
-            number: Refusal::Room,
-            line: 0,
-        }
+        PlanAnswer::Refused(plan::no_room())
     }
 }
 
@@ -59,7 +64,7 @@ pub fn with_room(a: PlanAnswer, v: usize, m: usize, o: usize, k: usize) -> PlanA
 {
     match a {
         PlanAnswer::Accepted(r) => room_or(plan_tables::roomy(r, v, m, o, k), r),
-        PlanAnswer::Refused { number: _, line: _ } => a,
+        PlanAnswer::Refused(_) => a,
     }
 }
 
@@ -69,6 +74,6 @@ pub fn is_accepted(a: PlanAnswer) -> bool
 {
     match a {
         PlanAnswer::Accepted(_) => true,
-        PlanAnswer::Refused { number: _, line: _ } => false,
+        PlanAnswer::Refused(_) => false,
     }
 }

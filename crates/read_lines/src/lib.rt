@@ -8,7 +8,7 @@ use text_lines::Said;
 ghost use mathlib.Core.Path.{_≡_};
 ghost use Rattle.laws.specs.Bytes.{pieces};
 ghost use Rattle.plan.specs.Limits.{lf};
-ghost use Rattle.plan.specs.Reading.{faultOf, nextOf};
+ghost use Rattle.plan.specs.Reading.{faultOf, fieldAt, nextOf};
 ghost use Rattle.text_lines.specs.Said.{saidItem};
 ghost use Rattle.judge_coded.specs.Coded as coded;
 ghost use Rattle.read_tally.specs.Tally as tallies;
@@ -23,6 +23,27 @@ fn fault_in(t: Seen, s: Said) -> Fault
     match found {
         Found::Is(k) => judge_faults::fault_of(t, k, s.a, s.b, s.c, s.d, s.e),
         Found::Nothing => Fault::Bad(Refusal::Shape),
+    }
+}
+
+// The field for which a line is refused by r.
+fn field_said(t: Seen, s: Said, r: Refusal) -> u64
+    ensures { λ k. ⌜ k ≡ fieldAt coded.coded t (saidItem s) r ⌝ }
+{
+    let found = s.found;
+    match found {
+        Found::Is(k) => judge_fields::field_of(t, k, s.a, s.b, s.c, s.d, s.e, r),
+        Found::Nothing => 0,
+    }
+}
+
+// The field of a line with a fault.
+fn field_in(t: Seen, s: Said, f: Fault) -> u64
+    ensures { λ k. ⌜ k ≡ judged.fieldBy t (saidItem s) f ⌝ }
+{
+    match f {
+        Fault::Clear => 0,
+        Fault::Bad(r) => field_said(t, s, r),
     }
 }
 
@@ -65,7 +86,7 @@ pub fn read_lines(
         let s = l.said;
         let f = fault_in(t, s);
         if !plan_tables::is_clear(f) {
-            return read_answer::refused(f, n);
+            return read_answer::refused(f, n, field_in(t, s, f));
         }
         read_fill::put_line(c, s, vt, mt, ot, kt);
         let u = seen_in(t, s);

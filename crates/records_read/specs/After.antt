@@ -14,7 +14,7 @@ use Rattle.records.specs.Sheet.{tablesOf, saved}
 -- how many records an answer writes
 abbrev pub countOf : PlanAnswer → ℕ
 countOf (Accepted r) = r .tasks
-countOf (Refused x l) = 0
+countOf (Refused x) = 0
 
 -- the records after reading these bytes into these tables: the rows of tasks that the plan leaves, and those beyond its count as lent; all as lent where it is refused
 unfoldable pub sheetsAfter : List ℕ → List ℕ → List ℕ → List ℕ → List Task → List Task

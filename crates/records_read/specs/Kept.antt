@@ -6,7 +6,7 @@ use lib.ListN.{drop}
 use lib.Seq.{drop-at}
 use Rattle.laws.specs.Rows.{rows}
 use Rattle.laws.specs.RowLaws.{rows-length}
-use Rattle.plan.specs.declared.Refusal.{Refusal}
+use Rattle.plan.specs.declared.Complaint.{Complaint}
 use Rattle.plan_tables.specs.declared.PlanRecord.{PlanRecord}
 use Rattle.plan_tables.specs.Layout.{Tables}
 use Rattle.read_answer.specs.declared.PlanAnswer.the-variants.{Accepted, Refused}
@@ -21,9 +21,9 @@ module _ (s vt mt ot : List ℕ) (ks : List Task) where
   lentTo = tablesOf vt mt ot ks
 
   -- "Every refusal leaves the lent tables .. as they were lent": the records
-  pub sheets-kept : (x : Refusal) (l : ℕ) → planAnswer s lentTo ≡ Refused x l → sheetsAfter s vt mt ot ks ≡ ks
+  pub sheets-kept : (x : Complaint) → planAnswer s lentTo ≡ Refused x → sheetsAfter s vt mt ot ks ≡ ks
   unfolding sheetsAfter
-  sheets-kept x l e = ap (λ a. saved ks (tablesAfter s lentTo .tasks) (countOf a)) e ∙ sym (saved-none ks (tablesAfter s lentTo .tasks))
+  sheets-kept x e = ap (λ a. saved ks (tablesAfter s lentTo .tasks) (countOf a)) e ∙ sym (saved-none ks (tablesAfter s lentTo .tasks))
 
   -- "An accepted plan leaves table rows beyond its count untouched": the records
   pub sheets-beyond : (r : PlanRecord) → planAnswer s lentTo ≡ Accepted r → drop (r .tasks) (sheetsAfter s vt mt ot ks) ≡ drop (r .tasks) ks

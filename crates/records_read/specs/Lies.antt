@@ -5,8 +5,8 @@ use mathlib.Core.List.{List}
 use mathlib.Core.Bool.{Bool, true, false}
 use native.Mathlib.Omega.{arith}
 use Rattle.laws.specs.Choice.{if_then_else_}
-use Rattle.plan.specs.declared.Refusal.{Refusal}
-use Rattle.plan.specs.declared.Refusal.the-variants.{Room}
+use Rattle.plan.specs.declared.Complaint.{Complaint}
+use Rattle.plan.specs.Refusals.{noRoom}
 use Rattle.plan.specs.Plan.{Plan}
 use Rattle.plan.specs.Valid.{Valid}
 use Rattle.plan.specs.Reading.{Reading, Accepts, Refuses, reading}
@@ -54,17 +54,17 @@ module _ (s : List ℕ) (t : Tables) (a : Ample t) where
       )
 
   -- 8 is never given: there is room
-  pub refused-reads : (x : Refusal) (l : ℕ) → planAnswer s t ≡ Refused x l → reading s ≡ Refuses x l
+  pub refused-reads : (x : Complaint) → planAnswer s t ≡ Refused x → reading s ≡ Refuses x
   unfolding planAnswer
-  refused-reads x l h = go (reading s) refl h
+  refused-reads x h = go (reading s) refl h
     where
-      at : (p : Plan) → (b : Bool) → b ≡ true → (if b then Accepted (recordOf p) else Refused Room 0) ≡ Refused x l → Accepts p ≡ Refuses x l
+      at : (p : Plan) → (b : Bool) → b ≡ true → (if b then Accepted (recordOf p) else Refused noRoom) ≡ Refused x → Accepts p ≡ Refuses x
       at p true e h = absurd (let z : _≡_ {A = ℕ} 0 1 = cc in omega arith)
       at p false e h = absurd (let z : _≡_ {A = ℕ} 0 1 = cc in omega arith)
 
-      go : (y : Reading) → reading s ≡ y → answerInto y t ≡ Refused x l → y ≡ Refuses x l
+      go : (y : Reading) → reading s ≡ y → answerInto y t ≡ Refused x → y ≡ Refuses x
       go (Accepts p) e h = at p (roomy (recordOf p) t) (ample-roomy p t (read-text s p e .0) a) h
-      go (Refuses y k) e h = cc
+      go (Refuses y) e h = cc
 
 -- the tables of an accepted plan pass the test for 9
 pub record Sure (a : PlanAnswer) (t : Tables) : Type 0 where

@@ -15,8 +15,8 @@ use Rattle.laws.specs.Rows.{rows}
 use Rattle.laws.specs.RowLaws.{rows-length, rows-same}
 use Rattle.laws.specs.BoolLaws.{both-ways}
 use Rattle.plan.specs.Limits.{maxTasks, mostTasks}
-use Rattle.plan.specs.declared.Refusal.{Refusal}
-use Rattle.plan.specs.declared.Refusal.the-variants.{Room}
+use Rattle.plan.specs.declared.Complaint.{Complaint}
+use Rattle.plan.specs.Refusals.{noRoom}
 use Rattle.plan.specs.Plan.{Plan, tasksOf}
 use Rattle.plan.specs.Valid.{Valid}
 use Rattle.plan.specs.Reading.{Reading, Accepts, Refuses, reading}
@@ -43,11 +43,11 @@ leb-same : (a b c : ℕ) → (a ≤ b → a ≤ c) → (a ≤ c → a ≤ b) →
 leb-same a b c f g = both-ways (leb a b) (leb a c) (λ e. le-leb a c (f (leb-true a b e))) (λ e. le-leb a b (g (leb-true a c e)))
 
 -- what holds of both readings of s holds
-by-reading : (s : List ℕ) (Q : Reading → Type 0) → ((x : Refusal) (l : ℕ) → Q (Refuses x l)) → ((p : Plan) → Valid p → Q (Accepts p)) → Q (reading s)
+by-reading : (s : List ℕ) (Q : Reading → Type 0) → ((x : Complaint) → Q (Refuses x)) → ((p : Plan) → Valid p → Q (Accepts p)) → Q (reading s)
 by-reading s Q f g = go (reading s) refl
   where
     go : (r : Reading) → reading s ≡ r → Q r
-    go (Refuses x l) e = f x l
+    go (Refuses x) e = f x
     go (Accepts p) e = g p (read-text s p e .0)
 
 -- no plan has more tasks than it may
@@ -57,9 +57,9 @@ few p h = h .few-tasks
 
 pub count-few : (s : List ℕ) (t : Tables) → countOf (planAnswer s t) ≤ maxTasks
 unfolding planAnswer
-count-few s t = by-reading s (λ r. countOf (answerInto r t) ≤ maxTasks) (λ x l. omega arith) (λ p h. go p h (roomy (recordOf p) t))
+count-few s t = by-reading s (λ r. countOf (answerInto r t) ≤ maxTasks) (λ x. omega arith) (λ p h. go p h (roomy (recordOf p) t))
   where
-    go : (p : Plan) → Valid p → (b : Bool) → countOf (if b then Accepted (recordOf p) else Refused Room 0) ≤ maxTasks
+    go : (p : Plan) → Valid p → (b : Bool) → countOf (if b then Accepted (recordOf p) else Refused noRoom) ≤ maxTasks
     go p h true = few p h
     go p h false = omega arith
 
@@ -89,15 +89,15 @@ module _ (s vt mt ot : List ℕ) (ks : List Task) (u : List ℕ) (long : length 
   pub answer-same : planAnswer s nums ≡ planAnswer s recs
   unfolding planAnswer
   answer-same =
-      by-reading s (λ r. answerInto r nums ≡ answerInto r recs) (λ x l. refl)
-      (λ p h. ap (λ b. if b then Accepted (recordOf p) else Refused Room 0) (room-same p h))
+      by-reading s (λ r. answerInto r nums ≡ answerInto r recs) (λ x. refl)
+      (λ p h. ap (λ b. if b then Accepted (recordOf p) else Refused noRoom) (room-same p h))
 
   -- the tables where b says that there is room
   abbrev left : Plan → Tables → Bool → Tables
   left p t b = if b then filled p t else t
 
   abbrev told : Plan → Bool → PlanAnswer
-  told p b = if b then Accepted (recordOf p) else Refused Room 0
+  told p b = if b then Accepted (recordOf p) else Refused noRoom
 
   others-same : (p : Plan) (b : Bool) → (left p nums b .vcpus ≡ left p recs b .vcpus) × (left p nums b .mutexes ≡ left p recs b .mutexes) × (left p nums b .opens ≡ left p recs b .opens)
   unfolding filled
@@ -107,19 +107,19 @@ module _ (s vt mt ot : List ℕ) (ks : List Task) (u : List ℕ) (long : length 
   pub vcpus-same : tablesAfter s nums .vcpus ≡ tablesAfter s recs .vcpus
   unfolding tablesAfter
   vcpus-same =
-      by-reading s (λ r. tablesInto r nums .vcpus ≡ tablesInto r recs .vcpus) (λ x l. refl)
+      by-reading s (λ r. tablesInto r nums .vcpus ≡ tablesInto r recs .vcpus) (λ x. refl)
       (λ p h. ap (λ b. left p nums b .vcpus) (room-same p h) ∙ others-same p (roomy (recordOf p) recs) .0)
 
   pub mutexes-same : tablesAfter s nums .mutexes ≡ tablesAfter s recs .mutexes
   unfolding tablesAfter
   mutexes-same =
-      by-reading s (λ r. tablesInto r nums .mutexes ≡ tablesInto r recs .mutexes) (λ x l. refl)
+      by-reading s (λ r. tablesInto r nums .mutexes ≡ tablesInto r recs .mutexes) (λ x. refl)
       (λ p h. ap (λ b. left p nums b .mutexes) (room-same p h) ∙ others-same p (roomy (recordOf p) recs) .1)
 
   pub opens-same : tablesAfter s nums .opens ≡ tablesAfter s recs .opens
   unfolding tablesAfter
   opens-same =
-      by-reading s (λ r. tablesInto r nums .opens ≡ tablesInto r recs .opens) (λ x l. refl)
+      by-reading s (λ r. tablesInto r nums .opens ≡ tablesInto r recs .opens) (λ x. refl)
       (λ p h. ap (λ b. left p nums b .opens) (room-same p h) ∙ others-same p (roomy (recordOf p) recs) .2)
 
   sheet-pick : (w : List ℕ) (p : Plan) → Valid p → (b : Bool) → saved ks (left p nums b .tasks ++ w) (countOf (told p b)) ≡ saved ks (left p recs b .tasks) (countOf (told p b))
@@ -136,12 +136,12 @@ module _ (s vt mt ot : List ℕ) (ks : List Task) (u : List ℕ) (long : length 
   unfolding planAnswer tablesAfter sheetsAfter
   sheets-same w =
       by-reading s (λ r. saved ks (tablesInto r nums .tasks ++ w) (countOf (answerInto r nums)) ≡ saved ks (tablesInto r recs .tasks) (countOf (answerInto r recs)))
-      (λ x l. sym (saved-none ks (u ++ w)) ∙ saved-none ks (sheetRows ks))
+      (λ x. sym (saved-none ks (u ++ w)) ∙ saved-none ks (sheetRows ks))
       (λ p h. ap (λ b. saved ks (left p nums b .tasks ++ w) (countOf (told p b))) (room-same p h) ∙ sheet-pick w p h (roomy (recordOf p) recs))
 
   count-room : countOf (planAnswer s recs) ≤ length ks
   unfolding planAnswer
-  count-room = by-reading s (λ r. countOf (answerInto r recs) ≤ length ks) (λ x l. omega arith) (λ p h. go p h (roomy (recordOf p) recs) refl)
+  count-room = by-reading s (λ r. countOf (answerInto r recs) ≤ length ks) (λ x. omega arith) (λ p h. go p h (roomy (recordOf p) recs) refl)
     where
       go : (p : Plan) → Valid p → (b : Bool) → roomy (recordOf p) recs ≡ b → countOf (told p b) ≤ length ks
       go p h true e = let k = roomy-exactly (recordOf p) recs .0 e in let l = sheet-long ks in omega (arith, k .tasks)
@@ -214,7 +214,7 @@ module _ (s vt mt ot : List ℕ) (ks : List Task) where
     where
       go : (a : PlanAnswer) → planAnswer s into ≡ a → sheetRows (sheetsAfter s vt mt ot ks) ≡ tablesAfter s into .tasks
       go (Accepted r) e = ap (λ a. sheetRows (saved ks (tablesAfter s into .tasks) (countOf a))) e ∙ accepted-rows r e
-      go (Refused x l) e = ap sheetRows (sheets-kept s vt mt ot ks x l e) ∙ sym (ap (λ u. u .tasks) (refusal-leaves s into x l e))
+      go (Refused x) e = ap sheetRows (sheets-kept s vt mt ot ks x e) ∙ sym (ap (λ u. u .tasks) (refusal-leaves s into x e))
 
   -- so that the tables with these records are those that reading leaves
   pub sheets-left : tablesOf (tablesAfter s into .vcpus) (tablesAfter s into .mutexes) (tablesAfter s into .opens) (sheetsAfter s vt mt ot ks) ≡ tablesAfter s into

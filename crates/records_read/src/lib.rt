@@ -18,7 +18,7 @@ fn count_of(a: PlanAnswer) -> usize
 {
     match a {
         PlanAnswer::Accepted(r) => r.tasks,
-        PlanAnswer::Refused { number: _, line: _ } => 0,
+        PlanAnswer::Refused(_) => 0,
     }
 }
 

@@ -1,15 +1,14 @@
 -- A line as code tests it: each number by its field, once its kind is found by tabs and words.
-use Prim.Native.Nat.{ℕ}
+use Prim.Native.Nat.{ℕ, _-_}
 use mathlib.Core.List.{List}
-use mathlib.Core.Bool.{Bool, true, false, _&&_, _||_}
+use mathlib.Core.Bool.{Bool, true, false, cond, _&&_, _||_}
 use lib.Dec.{eqb, leb, ltb}
 use Rattle.laws.specs.Choice.{when}
-use Rattle.laws.specs.Decimal.{value}
 use Rattle.laws.specs.Fields.{before, after}
-use Rattle.plan.specs.Limits.{maxDigits, tab}
+use Rattle.plan.specs.Limits.{tab}
 use Rattle.plan.specs.declared.Found.{Found}
 use Rattle.plan.specs.declared.Found.the-variants.{Is, Nothing}
-use Rattle.plan.specs.Line.{bad, shape, size}
+use Rattle.plan.specs.Line.{bad, numberAt, shape, size}
 use Rattle.text_lines.specs.Said.{Said}
 use Rattle.text_words.specs.Keys.{kindAt}
 
@@ -22,16 +21,21 @@ unfoldable pub pickOf : Bool → List ℕ → List ℕ → List ℕ
 pickOf true s t = s
 pickOf false s t = t
 
+-- the field of a line's second number
+unfoldable pub placeOf : Bool → ℕ
+placeOf true = 4
+placeOf false = 3
+
 -- WHAT IS SAID by a line with c tabs and n numbers, of the fields x, y, z, p, q after its word: of two numbers on three tabs the second stands in z
 unfoldable pub saidBy : ℕ → ℕ → Found → List ℕ → List ℕ → List ℕ → List ℕ → List ℕ → Said
 saidBy c n f x y z p q =
     record {
       found = f;
-      a = when (ltb 0 n) (value maxDigits x);
-      b = when (ltb 1 n) (value maxDigits (pickOf (eqb c 3 && eqb n 2) z y));
-      c = when (ltb 2 n) (value maxDigits z);
-      d = when (ltb 3 n) (value maxDigits p);
-      e = when (ltb 4 n) (value maxDigits q);
+      a = when (ltb 0 n) (numberAt 2 x);
+      b = when (ltb 1 n) (numberAt (placeOf (eqb c 3 && eqb n 2)) (pickOf (eqb c 3 && eqb n 2) z y));
+      c = when (ltb 2 n) (numberAt 4 z);
+      d = when (ltb 3 n) (numberAt 5 p);
+      e = when (ltb 4 n) (numberAt 6 q);
     }
 
 -- of the fields x, y and what follows them
@@ -47,3 +51,11 @@ saidAfter c w t =
 unfoldable pub writtenBy : ℕ → ℕ → ℕ → ℕ → ℕ → ℕ → Bool
 writtenBy n a b c d e =
     (leb n 0 || ltb a bad) && ((leb n 1 || ltb b bad) && ((leb n 2 || ltb c bad) && ((leb n 3 || ltb d bad) && (leb n 4 || ltb e bad))))
+
+-- where there is a number x: its field where it is not written as it should be, else what follows it
+unfoldable pub spotOf : Bool → ℕ → ℕ → ℕ
+spotOf on x rest = when on (cond (ltb x bad) rest (x - bad))
+
+-- the field of the first of n numbers that is not written as it should be
+unfoldable pub unwrittenBy : ℕ → ℕ → ℕ → ℕ → ℕ → ℕ → ℕ
+unwrittenBy n a b c d e = spotOf (ltb 0 n) a (spotOf (ltb 1 n) b (spotOf (ltb 2 n) c (spotOf (ltb 3 n) d (spotOf (ltb 4 n) e 0))))

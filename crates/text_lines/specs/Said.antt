@@ -12,7 +12,7 @@ pub use Rattle.text_lines.specs.declared.Said.{Said}
 
 abbrev pub numbersIn : List (List ℕ) → Found → List ℕ
 numbersIn fs Nothing = []
-numbersIn fs (Is k) = numbers (shape k) fs
+numbersIn fs (Is k) = numbers 1 (shape k) fs
 
 abbrev pub saidAs : Found → List ℕ → Said
 saidAs f ns = record { found = f; a = nth 0 ns; b = nth 1 ns; c = nth 2 ns; d = nth 3 ns; e = nth 4 ns }

@@ -1,5 +1,5 @@
 -- What is said is the line's item; and what code reads, field by field, is what is said.
-use Prim.Native.Nat.{ℕ, zero, suc, pred}
+use Prim.Native.Nat.{ℕ, zero, suc, pred, _+_}
 use mathlib.Core.Path.{_≡_, refl, ap, _∙_}
 use mathlib.Core.List.{List, [], _∷_}
 use mathlib.Core.Option.{some}
@@ -9,20 +9,20 @@ use lib.ListN.{length}
 use Rattle.laws.specs.BoolLaws.{both-right}
 use Rattle.laws.specs.Bytes.{pieces, same}
 use Rattle.laws.specs.Choice.{when}
-use Rattle.laws.specs.Decimal.{value}
 use Rattle.laws.specs.Fields.{before, after, count, field, fieldsTo}
 use Rattle.laws.specs.Steps.{pieces-fields, pieces-length}
-use Rattle.plan.specs.Limits.{maxDigits, tab}
+use Rattle.plan.specs.Limits.{tab}
 use Rattle.plan.specs.declared.Kind.{Kind}
 use Rattle.plan.specs.declared.Kind.the-variants.{PlanLine, PolicyPO, PolicyPN, PolicyDO, PolicyDN, VcpuLine, MutexG, MutexL, OpenLine, GuestLine, TaskLine, RunLine, LockLine, EndLine, AskLine, FreeLine, UseLine, TopLine, ShowLine}
 use Rattle.plan.specs.declared.Found.{Found}
 use Rattle.plan.specs.declared.Found.the-variants.{Is, Nothing}
-use Rattle.plan.specs.Line.{Form, Word, Num, Item, shape, kinds, hasShape, numbers, kindIn, itemFrom, itemOf, written}
+use Rattle.plan.specs.Line.{Form, Word, Num, Item, shape, kinds, hasShape, numberAt, numbers, kindIn, itemFrom, itemOf, written}
 use Rattle.plan.specs.Rules.{nth}
+use Rattle.plan.specs.Fields.{unwritten}
 use Rattle.text_lines.specs.Said.{numbersIn, saidAs, saidOf, saidItem, itemSaid}
 use Rattle.plan.specs.Line.{size, numsOf}
 use Rattle.plan.specs.LineLaws.{kind-has}
-use Rattle.text_lines.specs.Code.{sizeIn, pickOf, saidBy, writtenBy}
+use Rattle.text_lines.specs.Code.{sizeIn, pickOf, placeOf, saidBy, writtenBy, spotOf, unwrittenBy}
 
 pub has-length : (ps : List Form) (fs : List (List ℕ)) → hasShape ps fs ≡ true → length ps ≡ length fs
 unfolding hasShape
@@ -33,74 +33,79 @@ has-length (Word w ∷ ps) (f ∷ fs) h = ap suc (has-length ps fs (both-right (
 has-length (Num ∷ ps) (f ∷ fs) h = ap suc (has-length ps fs h)
 
 -- the numbers of a shape, field by field
-unfoldable numbersBy : List Form → List ℕ → List ℕ
-numbersBy [] s = []
-numbersBy (Word w ∷ ps) s = numbersBy ps (after tab s)
-numbersBy (Num ∷ ps) s = value maxDigits (before tab s) ∷ numbersBy ps (after tab s)
+unfoldable numbersBy : ℕ → List Form → List ℕ → List ℕ
+numbersBy k [] s = []
+numbersBy k (Word w ∷ ps) s = numbersBy (k + 1) ps (after tab s)
+numbersBy k (Num ∷ ps) s = numberAt k (before tab s) ∷ numbersBy (k + 1) ps (after tab s)
 
-numbers-fields : (ps : List Form) (n : ℕ) (s : List ℕ) → length ps ≡ suc n → numbers ps (fieldsTo tab n s) ≡ numbersBy ps s
+numbers-fields : (k : ℕ) (ps : List Form) (n : ℕ) (s : List ℕ) → length ps ≡ suc n → numbers k ps (fieldsTo tab n s) ≡ numbersBy k ps s
 unfolding numbers numbersBy fieldsTo
-numbers-fields [] n s h = absurd (omega arith)
-numbers-fields (Word w ∷ []) zero s h = refl
-numbers-fields (Num ∷ []) zero s h = refl
-numbers-fields (p ∷ q ∷ ps) zero s h = absurd (omega arith)
-numbers-fields (Word w ∷ ps) (suc n) s h = numbers-fields ps n (after tab s) (omega arith)
-numbers-fields (Num ∷ ps) (suc n) s h = ap (λ r. value maxDigits (before tab s) ∷ r) (numbers-fields ps n (after tab s) (omega arith))
+numbers-fields k [] n s h = absurd (omega arith)
+numbers-fields k (Word w ∷ []) zero s h = refl
+numbers-fields k (Num ∷ []) zero s h = refl
+numbers-fields k (p ∷ q ∷ ps) zero s h = absurd (omega arith)
+numbers-fields k (Word w ∷ ps) (suc n) s h = numbers-fields (k + 1) ps n (after tab s) (omega arith)
+numbers-fields k (Num ∷ ps) (suc n) s h = ap (λ r. numberAt k (before tab s) ∷ r) (numbers-fields (k + 1) ps n (after tab s) (omega arith))
 
 abbrev asNums : Kind → List ℕ → List ℕ
 asNums k ns = numsOf k (nth 0 ns) (nth 1 ns) (nth 2 ns) (nth 3 ns) (nth 4 ns)
 
--- FOR EACH KIND: what code reads of its fields; its numbers are as many of five; how code tests that they are written
+-- FOR EACH KIND: what code reads of its fields; its numbers are as many of five; how code tests that they are written, and finds the first that is not
 abbrev Read : Kind → Type 0
 Read k =
     ((l : List ℕ) →
-    (saidAs (Is k) (numbersBy (shape k) l)
+    (saidAs (Is k) (numbersBy 1 (shape k) l)
     ≡ saidBy (pred (length (shape k))) (size (shape k)) (Is k) (field tab 1 l) (field tab 2 l) (field tab 3 l) (field tab 4 l) (field tab 5 l))
-    × (numbersBy (shape k) l ≡ asNums k (numbersBy (shape k) l)))
-    × ((a b c d e : ℕ) → written (shape k) (numsOf k a b c d e) ≡ writtenBy (size (shape k)) a b c d e)
+    × (numbersBy 1 (shape k) l ≡ asNums k (numbersBy 1 (shape k) l)))
+    × ((a b c d e : ℕ) →
+    (written (shape k) (numsOf k a b c d e) ≡ writtenBy (size (shape k)) a b c d e)
+    × (unwritten (numsOf k a b c d e) ≡ unwrittenBy (size (shape k)) a b c d e))
 
 read-kind : (k : Kind) → Read k
-unfolding shape size numsOf numbersBy saidBy pickOf when field written writtenBy
+unfolding shape size numsOf numbersBy saidBy pickOf placeOf when field written writtenBy unwritten spotOf unwrittenBy
 read-kind k =
     elim k [
-      | PlanLine ↦ (λ l. (refl, refl), λ a b c d e. refl)
-      | PolicyPO ↦ (λ l. (refl, refl), λ a b c d e. refl)
-      | PolicyPN ↦ (λ l. (refl, refl), λ a b c d e. refl)
-      | PolicyDO ↦ (λ l. (refl, refl), λ a b c d e. refl)
-      | PolicyDN ↦ (λ l. (refl, refl), λ a b c d e. refl)
-      | VcpuLine ↦ (λ l. (refl, refl), λ a b c d e. simp and-true)
-      | MutexG ↦ (λ l. (refl, refl), λ a b c d e. refl)
-      | MutexL ↦ (λ l. (refl, refl), λ a b c d e. refl)
-      | OpenLine ↦ (λ l. (refl, refl), λ a b c d e. refl)
-      | GuestLine ↦ (λ l. (refl, refl), λ a b c d e. refl)
-      | TaskLine ↦ (λ l. (refl, refl), λ a b c d e. refl)
-      | RunLine ↦ (λ l. (refl, refl), λ a b c d e. refl)
-      | LockLine ↦ (λ l. (refl, refl), λ a b c d e. refl)
-      | EndLine ↦ (λ l. (refl, refl), λ a b c d e. refl)
-      | AskLine ↦ (λ l. (refl, refl), λ a b c d e. refl)
-      | FreeLine ↦ (λ l. (refl, refl), λ a b c d e. refl)
-      | UseLine ↦ (λ l. (refl, refl), λ a b c d e. refl)
-      | TopLine ↦ (λ l. (refl, refl), λ a b c d e. refl)
-      | ShowLine ↦ (λ l. (refl, refl), λ a b c d e. refl)
+      | PlanLine ↦ (λ l. (refl, refl), λ a b c d e. (refl, refl))
+      | PolicyPO ↦ (λ l. (refl, refl), λ a b c d e. (refl, refl))
+      | PolicyPN ↦ (λ l. (refl, refl), λ a b c d e. (refl, refl))
+      | PolicyDO ↦ (λ l. (refl, refl), λ a b c d e. (refl, refl))
+      | PolicyDN ↦ (λ l. (refl, refl), λ a b c d e. (refl, refl))
+      | VcpuLine ↦ (λ l. (refl, refl), λ a b c d e. (simp and-true, refl))
+      | MutexG ↦ (λ l. (refl, refl), λ a b c d e. (refl, refl))
+      | MutexL ↦ (λ l. (refl, refl), λ a b c d e. (refl, refl))
+      | OpenLine ↦ (λ l. (refl, refl), λ a b c d e. (refl, refl))
+      | GuestLine ↦ (λ l. (refl, refl), λ a b c d e. (refl, refl))
+      | TaskLine ↦ (λ l. (refl, refl), λ a b c d e. (refl, refl))
+      | RunLine ↦ (λ l. (refl, refl), λ a b c d e. (refl, refl))
+      | LockLine ↦ (λ l. (refl, refl), λ a b c d e. (refl, refl))
+      | EndLine ↦ (λ l. (refl, refl), λ a b c d e. (refl, refl))
+      | AskLine ↦ (λ l. (refl, refl), λ a b c d e. (refl, refl))
+      | FreeLine ↦ (λ l. (refl, refl), λ a b c d e. (refl, refl))
+      | UseLine ↦ (λ l. (refl, refl), λ a b c d e. (refl, refl))
+      | TopLine ↦ (λ l. (refl, refl), λ a b c d e. (refl, refl))
+      | ShowLine ↦ (λ l. (refl, refl), λ a b c d e. (refl, refl))
     ]
 
 pub written-code : (k : Kind) (a b c d e : ℕ) → written (shape k) (numsOf k a b c d e) ≡ writtenBy (size (shape k)) a b c d e
-written-code k = read-kind k .1
+written-code k a b c d e = read-kind k .1 a b c d e .0
+
+pub unwritten-code : (k : Kind) (a b c d e : ℕ) → unwritten (numsOf k a b c d e) ≡ unwrittenBy (size (shape k)) a b c d e
+unwritten-code k a b c d e = read-kind k .1 a b c d e .1
 
 -- a line of a kind: its tabs, and its numbers
 module _ (l : List ℕ) (k : Kind) (h : kindIn kinds (pieces tab l) ≡ Is k) where
   forms : length (shape k) ≡ suc (count tab l)
   forms = has-length (shape k) (pieces tab l) (kind-has kinds (pieces tab l) k h) ∙ pieces-length tab l
 
-  line-numbers : numbers (shape k) (pieces tab l) ≡ numbersBy (shape k) l
-  line-numbers = ap (numbers (shape k)) (pieces-fields tab l) ∙ numbers-fields (shape k) (count tab l) l forms
+  line-numbers : numbers 1 (shape k) (pieces tab l) ≡ numbersBy 1 (shape k) l
+  line-numbers = ap (numbers 1 (shape k)) (pieces-fields tab l) ∙ numbers-fields 1 (shape k) (count tab l) l forms
 
   -- the numbers of a line are as many of five as its kind has
-  pub numbers-nums : numbers (shape k) (pieces tab l) ≡ asNums k (numbers (shape k) (pieces tab l))
+  pub numbers-nums : numbers 1 (shape k) (pieces tab l) ≡ asNums k (numbers 1 (shape k) (pieces tab l))
   numbers-nums = rw line-numbers (read-kind k .0 l .1)
 
   said-kind :
-      saidAs (Is k) (numbers (shape k) (pieces tab l))
+      saidAs (Is k) (numbers 1 (shape k) (pieces tab l))
       ≡ saidBy (count tab l) (size (shape k)) (Is k) (field tab 1 l) (field tab 2 l) (field tab 3 l) (field tab 4 l) (field tab 5 l)
   said-kind =
       let n : count tab l ≡ pred (length (shape k)) = omega (arith, forms) in

@@ -7,13 +7,12 @@ ghost use mathlib.Core.Path.{_≡_};
 ghost use Prim.Native.Nat.{_+_};
 ghost use lib.ListN.{length, take, drop};
 ghost use Rattle.laws.specs.Choice.{when};
-ghost use Rattle.laws.specs.Decimal.{value};
 ghost use Rattle.laws.specs.Fields.{before, after, count};
-ghost use Rattle.plan.specs.Limits.{maxDigits};
-ghost use Rattle.plan.specs.Line.{shape, written};
+ghost use Rattle.plan.specs.Line.{shape, written, numberAt};
 ghost use Rattle.text_lines.specs.Code as code;
 ghost use Rattle.text_lines.specs.Said.{saidOf};
 ghost use Rattle.plan.specs.Line.{numsOf, size};
+ghost use Rattle.plan.specs.Fields.{unwritten};
 
 // Where the first `b` of `s` stands; the length of `s` where there is none.
 pub fn cut(s: &[u8], b: u8) -> usize
@@ -121,11 +120,11 @@ fn size_in(found: Found) -> u64
     }
 }
 
-// The number of a field that is there, else 0.
-fn number_if(on: bool, s: &[u8]) -> u64
-    ensures { λ r. ⌜ r ≡ when on (value maxDigits (now (s .entry))) ⌝ }
+// The number of field k where it is there, else 0.
+fn number_if(on: bool, s: &[u8], k: u8) -> u64
+    ensures { λ r. ⌜ r ≡ when on (numberAt k (now (s .entry))) ⌝ }
 {
-    if on { text_words::number(s) } else { 0 }
+    if on { text_words::number(s, k) } else { 0 }
 }
 
 // One of two fields.
@@ -133,6 +132,13 @@ fn pick<'a>(ok: bool, s: &'a [u8], t: &'a [u8]) -> &'a [u8]
     ensures { λ r. ⌜ now r ≡ code.pickOf ok (now (s .entry)) (now (t .entry)) ⌝ }
 {
     if ok { s } else { t }
+}
+
+// The field of a line's second number: the third, or the fourth where a letter stands between.
+fn place(later: bool) -> u8
+    ensures { λ r. ⌜ r ≡ code.placeOf later ⌝ }
+{
+    if later { 4 } else { 3 }
 }
 
 // What is said by a line with c tabs and n numbers, of the fields after its word.
@@ -148,14 +154,15 @@ fn said_by<'a>(
 ) -> Said
     ensures { λ r. ⌜ r ≡ code.saidBy c n found (now (x .entry)) (now (y .entry)) (now (z .entry)) (now (p .entry)) (now (q .entry)) ⌝ }
 {
-    let second = pick((c == 3) & (n == 2), z, y);
+    let later = (c == 3) & (n == 2);
+    let second = pick(later, z, y);
     Said {
         found: found,
-        a: number_if(0 < n, x),
-        b: number_if(1 < n, second),
-        c: number_if(2 < n, z),
-        d: number_if(3 < n, p),
-        e: number_if(4 < n, q),
+        a: number_if(0 < n, x, 2),
+        b: number_if(1 < n, second, place(later)),
+        c: number_if(2 < n, z, 4),
+        d: number_if(3 < n, p, 5),
+        e: number_if(4 < n, q, 6),
     }
 }
 
@@ -202,4 +209,24 @@ pub fn written_of(kind: Kind, a: u64, b: u64, c: u64, d: u64, e: u64) -> bool
     let n = size_of(kind);
     let last = ((n <= 3) | (d < BAD)) & ((n <= 4) | (e < BAD));
     ((n <= 0) | (a < BAD)) & (((n <= 1) | (b < BAD)) & (((n <= 2) | (c < BAD)) & last))
+}
+
+// Where there is a number x: its field where it is not written as it should be, else what follows it.
+fn spot(on: bool, x: u64, rest: u64) -> u64
+    ensures { λ r. ⌜ r ≡ code.spotOf on x rest ⌝ }
+{
+    if on {
+        if x < BAD { rest } else { x - BAD }
+    } else {
+        0
+    }
+}
+
+// The field of the first number of a line of this kind that is not written as it should be; 0 where there is none.
+pub fn unwritten_of(kind: Kind, a: u64, b: u64, c: u64, d: u64, e: u64) -> u64
+    ensures { λ r. ⌜ r ≡ unwritten (numsOf kind a b c d e) ⌝ }
+{
+    let n = size_of(kind);
+    let later = spot(2 < n, c, spot(3 < n, d, spot(4 < n, e, 0)));
+    spot(0 < n, a, spot(1 < n, b, later))
 }

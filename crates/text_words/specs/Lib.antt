@@ -1,3 +1,4 @@
 pub mod Keys
 pub mod KeyLaws
 pub mod KindLaws
+pub mod NumberLaws

@@ -5,9 +5,8 @@ use plan::Kind;
 ghost use mathlib.Core.Path.{_≡_};
 ghost use Prim.Native.Nat.{_≤_};
 ghost use lib.ListN.{length};
-ghost use Rattle.laws.specs.Decimal.{digitOf, scan, starts, value};
-ghost use Rattle.plan.specs.Limits.{maxDigits};
-ghost use Rattle.plan.specs.Line.{bad};
+ghost use Rattle.laws.specs.Decimal.{digitOf, scan, starts};
+ghost use Rattle.plan.specs.Line.{numberAt};
 ghost use Rattle.text_words.specs.Keys as keys;
 
 // The keys of the words: the bytes, and how many.
@@ -65,10 +64,10 @@ fn digit_of(x: u8) -> u64
     if x <= 57 { (x - 48) as u64 } else { 10 }
 }
 
-// The digits of `s` as a value.
-fn digits(s: &[u8]) -> u64
+// The digits of `s` as a value; `none` where a byte is no digit.
+fn digits(s: &[u8], none: u64) -> u64
     requires { ⌜ length (now s) ≤ 7 ⌝ }
-    ensures { λ r. ⌜ r ≡ scan bad 0 (now (s .entry)) ⌝ }
+    ensures { λ r. ⌜ r ≡ scan none 0 (now (s .entry)) ⌝ }
 {
     let mut v: u64 = 0;
     let mut i = 0;
@@ -77,7 +76,7 @@ fn digits(s: &[u8]) -> u64
         if d < 10 {
             v = v * 10 + d;
         } else {
-            return BAD;
+            return none;
         }
         i += 1;
     }
@@ -97,14 +96,19 @@ fn starts_well(s: &[u8]) -> bool
     s[0] != 48
 }
 
-// The number that a field says; 10,000,000 for one that is not written as it should be.
-pub fn number(s: &[u8]) -> u64
-    ensures { λ r. ⌜ r ≡ value maxDigits (now (s .entry)) ⌝ }
+// The number that field k says; for one that is not written as it should be, 10,000,000 and k.
+pub fn number(s: &[u8], k: u8) -> u64
+    ensures { λ r. ⌜ r ≡ numberAt k (now (s .entry)) ⌝ }
 {
+    let none = BAD + k as u64;
     if s.len() <= 7 {
-        if starts_well(s) { digits(s) } else { BAD }
+        if starts_well(s) {
+            digits(s, none)
+        } else {
+            none
+        }
     } else {
-        BAD
+        none
     }
 }
 

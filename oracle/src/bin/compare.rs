@@ -204,7 +204,7 @@ fn tsv_names(folder: &Path) -> Result<Vec<String>, String> {
     Ok(tsv.map(|p| named(p)).collect())
 }
 
-/// FOLDER/want.tsv: a name, and `accepted` or `refused` number line, for every other
+/// FOLDER/want.tsv: a name, and `accepted` or `refused` number line field, for every other
 /// .tsv file there. FOLDER/listings/NAME.tsv, where it is, is the listing of an accepted plan.
 fn stored_plans(folder: &Path) -> Result<Vec<Case>, String> {
     let list = folder.join("want.tsv");
@@ -220,7 +220,7 @@ fn stored_plans(folder: &Path) -> Result<Vec<Case>, String> {
         let (name, wanted) = line.split_once('\t').ok_or_else(|| bad(line))?;
         let fields: Vec<&str> = wanted.split('\t').collect();
         let want = match fields.as_slice() {
-            ["refused", _, _] => Want::Text(format!("{}\n", wanted).into_bytes()),
+            ["refused", _, _, _] => Want::Text(format!("{}\n", wanted).into_bytes()),
             ["accepted"] if unused.iter().any(|n| n == name) => {
                 unused.retain(|n| n != name);
                 Want::Text(file_bytes(&listings.join(format!("{}.tsv", name)))?)

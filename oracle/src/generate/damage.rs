@@ -164,40 +164,54 @@ fn number_field<'a>(chance: &mut Chance, line: &'a mut Line) -> Option<(Field, &
 
 fn misnumber(chance: &mut Chance, line: &mut Line) {
     if let Some((_, field)) = number_field(chance, line) {
-        let text = String::from_utf8_lossy(field).into_owned();
-        let bad = match chance.below(14) {
-            0 => String::new(),
-            1 => format!("0{}", text),
-            2 => "00".to_string(),
-            3 => "10000000".to_string(),
-            4 => "00000001".to_string(),
-            5 => format!("+{}", text),
-            6 => format!("-{}", text),
-            7 => format!("{} ", text),
-            8 => format!(" {}", text),
-            9 => format!("{}x", text),
-            10 => format!("{}\r", text),
-            11 => format!("{}\0", text),
-            12 => "18446744073709551617".to_string(),
-            _ => "\u{663}".to_string(),
-        };
-        *field = bad.into_bytes();
+        bad_form(chance, field);
     }
 }
 
+fn bad_form(chance: &mut Chance, field: &mut Vec<u8>) {
+    let text = String::from_utf8_lossy(field).into_owned();
+    let bad = match chance.below(14) {
+        0 => String::new(),
+        1 => format!("0{}", text),
+        2 => "00".to_string(),
+        3 => "10000000".to_string(),
+        4 => "00000001".to_string(),
+        5 => format!("+{}", text),
+        6 => format!("-{}", text),
+        7 => format!("{} ", text),
+        8 => format!(" {}", text),
+        9 => format!("{}x", text),
+        10 => format!("{}\r", text),
+        11 => format!("{}\0", text),
+        12 => "18446744073709551617".to_string(),
+        _ => "\u{663}".to_string(),
+    };
+    *field = bad.into_bytes();
+}
+
 fn misrange(chance: &mut Chance, line: &mut Line) {
-    let top = line.get(5).and_then(|f| number(f)).unwrap_or(TICKS);
+    let top = top_of(line);
     if let Some((kind, field)) = number_field(chance, line) {
-        let (low, high) = range(kind);
-        let bad = match chance.below(5) {
-            0 => low.saturating_sub(1),
-            1 => high + 1,
-            2 if kind != Field::Budget => 9_999_999,
-            2 | 3 if kind == Field::Budget => top + 1,
-            _ => chance.between(high + 1, 9_999_999),
-        };
-        *field = bad.to_string().into_bytes();
+        out_of_range(chance, kind, top, field);
     }
+}
+
+/// The period of a `vcpu` line.
+fn top_of(line: &Line) -> u64 {
+    line.get(5).and_then(|f| number(6, f).ok()).unwrap_or(TICKS)
+}
+
+/// Mostly out of its range; a budget may be one more than its period, `top`.
+fn out_of_range(chance: &mut Chance, kind: Field, top: u64, field: &mut Vec<u8>) {
+    let (low, high) = range(kind);
+    let bad = match chance.below(5) {
+        0 => low.saturating_sub(1),
+        1 => high + 1,
+        2 if kind != Field::Budget => 9_999_999,
+        2 | 3 if kind == Field::Budget => top + 1,
+        _ => chance.between(high + 1, 9_999_999),
+    };
+    *field = bad.to_string().into_bytes();
 }
 
 type Pool = Vec<(Field, Vec<u8>)>;
@@ -216,18 +230,22 @@ fn pool_of(lines: &[Line]) -> Pool {
 /// A reference or a key is set to another number of the plan or within its range.
 fn mislead(chance: &mut Chance, line: &mut Line, pool: &Pool) {
     if let Some((kind, field)) = number_field(chance, line) {
-        let (low, high) = range(kind);
-        if matches!(kind, Field::V | Field::Guest | Field::M | Field::N) {
-            let alike: Vec<&Vec<u8>> = pool
-                .iter()
-                .filter(|(other, _)| *other == kind)
-                .map(|(_, value)| value)
-                .collect();
-            *field = match chance.pick(&alike) {
-                Some(value) if chance.percent(60) => value.to_vec(),
-                _ => chance.between(low, high).to_string().into_bytes(),
-            };
-        }
+        other_name(chance, kind, field, pool);
+    }
+}
+
+fn other_name(chance: &mut Chance, kind: Field, field: &mut Vec<u8>, pool: &Pool) {
+    let (low, high) = range(kind);
+    if matches!(kind, Field::V | Field::Guest | Field::M | Field::N) {
+        let alike: Vec<&Vec<u8>> = pool
+            .iter()
+            .filter(|(other, _)| *other == kind)
+            .map(|(_, value)| value)
+            .collect();
+        *field = match chance.pick(&alike) {
+            Some(value) if chance.percent(60) => value.to_vec(),
+            _ => chance.between(low, high).to_string().into_bytes(),
+        };
     }
 }
 
@@ -354,6 +372,7 @@ pub fn damaged(chance: &mut Chance, kind: &str) -> Vec<u8> {
         "refuse6" => aimed(chance, 6),
         "refuse7" => aimed(chance, 7),
         "sameline" => same_line(chance),
+        "fields" => in_fields(chance),
         "twolines" => {
             let mut lines = parse(&base(chance));
             for _ in 0..2 {
@@ -419,6 +438,103 @@ fn same_line(chance: &mut Chance) -> Vec<u8> {
         }
     }
     last
+}
+
+/// The number fields of each kind of line, the word being field 1; a `mutex` line with its letter.
+const NUMBER_FIELDS: [(&[u8], &[u8], &[u64]); 8] = [
+    (b"vcpu", b"", &[2, 3, 4, 5, 6]),
+    (b"mutex", b"G", &[2]),
+    (b"mutex", b"L", &[2, 4]),
+    (b"open", b"", &[2, 3]),
+    (b"guest", b"", &[2]),
+    (b"task", b"", &[2, 3, 4]),
+    (b"run", b"", &[2]),
+    (b"lock", b"", &[2, 3]),
+];
+
+/// Can a fault of this number stand in this field?
+fn can_be(number: u64, word: &[u8], letter: &[u8], field: u64) -> bool {
+    match number {
+        2 | 3 => true,
+        5 => matches!(
+            (word, letter, field),
+            (b"mutex", b"L", 4)
+                | (b"open", _, _)
+                | (b"guest", _, 2)
+                | (b"task", _, 2)
+                | (b"lock", _, 2)
+        ),
+        _ => matches!((word, field), (b"task", 2) | (b"lock", 2)),
+    }
+}
+
+/// One line with a fault in a chosen field, any that can have it; often more such faults to its right, and
+/// faults of higher numbers beside it.
+fn in_fields(chance: &mut Chance) -> Vec<u8> {
+    let mut faults = Vec::new();
+    for meant in [2, 3, 5, 6] {
+        for (word, letter, fields) in NUMBER_FIELDS {
+            let able = fields.iter().filter(|f| can_be(meant, word, letter, **f));
+            faults.extend(able.map(|f| (meant, word, letter, fields, *f)));
+        }
+    }
+    let mut last = Vec::new();
+    let (meant, word, letter, fields, chosen) = match chance.pick(&faults) {
+        Some(fault) => *fault,
+        None => return last,
+    };
+    for _ in 0..60 {
+        let mut lines = parse(&base(chance));
+        let pool = pool_of(&lines);
+        let of_kind = |line: &Line| {
+            line.first().map_or(false, |w| w == word)
+                && (letter.is_empty() || line.get(2).map_or(false, |l| l == letter))
+        };
+        let places: Vec<usize> = (0..lines.len())
+            .filter(|i| lines.get(*i).map_or(false, of_kind))
+            .collect();
+        let at = chance.pick(&places).copied().unwrap_or(lines.len());
+        if let Some(line) = lines.get_mut(at) {
+            spoil(chance, line, meant, fields, chosen, &pool);
+        }
+        last = join(&lines);
+        if let Err(refusal) = read(&last) {
+            if u64::from(refusal.number) == meant && refusal.line == at as u64 + 1 {
+                break;
+            }
+        }
+    }
+    last
+}
+
+/// Of `fields`, the chosen one and some to its right get faults of the number meant; others, some of a higher one.
+fn spoil(
+    chance: &mut Chance,
+    line: &mut Line,
+    meant: u64,
+    fields: &[u64],
+    chosen: u64,
+    pool: &Pool,
+) {
+    let top = top_of(line);
+    let kinds = fields_of(line);
+    for f in fields {
+        let number = if *f == chosen || (*f > chosen && chance.percent(50)) {
+            meant
+        } else if chance.percent(30) {
+            chance.between(meant + 1, 4)
+        } else {
+            continue;
+        };
+        let kind = kinds.get(*f as usize - 2).copied();
+        if let (Some(kind), Some(field)) = (kind, line.get_mut(*f as usize - 1)) {
+            match number {
+                2 => bad_form(chance, field),
+                3 => out_of_range(chance, kind, top, field),
+                _ => other_name(chance, kind, field, pool),
+            }
+        }
+    }
 }
 
 /// The line that is one too many mostly carries a fault of a lower number too.

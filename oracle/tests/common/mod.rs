@@ -50,3 +50,36 @@ pub const ANSWERS: [&str; 14] = [
     "refused 14",
     "refused 15",
 ];
+
+/// A plan with every kind of line and two of most.
+pub const BASE: [&str; 22] = [
+    "plan 1",
+    "policy D O",
+    "vcpu 1 1 0 3 20",
+    "vcpu 2 2 0 2 10",
+    "mutex 1 G",
+    "mutex 2 L 1",
+    "mutex 3 G",
+    "open 1 1",
+    "open 1 2",
+    "guest 1",
+    "task 1 1 100",
+    "run 2",
+    "lock 1 1",
+    "run 2",
+    "lock 2 1",
+    "run 0",
+    "guest 2",
+    "task 2 1 50",
+    "run 1",
+    "lock 1 2",
+    "run 1",
+    "end",
+];
+
+/// FNV-1a over everything given.
+pub fn mark(parts: impl Iterator<Item = Vec<u8>>) -> u64 {
+    parts.flatten().fold(0xcbf2_9ce4_8422_2325, |h, b| {
+        (h ^ u64::from(b)).wrapping_mul(0x0000_0100_0000_01b3)
+    })
+}

@@ -6,7 +6,7 @@ use Rattle.clock.proofs.tell_refusal.Tie as tie
 
 refused-line-requires : tie.Need-refused-line-requires
 refused-line-requires c κs =
-    let a = c .before .before .args in refused-room (a .x) (a .l) (c .before .before .fits .l .fits) (a .out .now) (c .before .before .pre)
+    let a = c .before .before .args in refused-room (a .c) (search needs) (search needs) (a .out .now) (c .before .before .pre)
 
 slice-reshare-prefix-print : tie.Need-slice-reshare-prefix-print
 slice-reshare-prefix-print c =

@@ -7,10 +7,18 @@ use Rattle.desk.proofs.board_text.Statement.{statement}
 use Rattle.desk.proofs.board_text.Tie as tie
 
 returns : tie.Need-returns
-returns c = let x = c .before .before in let y = x .before .before in plan-printed _ _ _ (sym (y .before .too-large .ensures) ∙ y .if1 .taken) (x .refusal-text .ensures)
+returns c =
+    let x = c .before .before in
+    let n = x .before .before in
+    let y = n .before in
+    plan-printed _ _ _ (sym (y .before .too-large .ensures) ∙ y .if1 .taken) (n .no-room .ensures) (x .refusal-text .ensures)
 
 returns-2 : tie.Need-returns-2
-returns-2 c = let x = c .before .before in let y = x .before .before in events-printed _ _ _ (sym (y .before .too-large2 .ensures) ∙ y .if2 .taken) (x .refusal-text2 .ensures)
+returns-2 c =
+    let x = c .before .before in
+    let n = x .before .before in
+    let y = n .before in
+    events-printed _ _ _ (sym (y .before .too-large2 .ensures) ∙ y .if2 .taken) (n .no-room2 .ensures) (x .refusal-text2 .ensures)
 
 returns-3 : tie.Need-returns-3
 returns-3 c =
@@ -25,8 +33,10 @@ board-text-spec =
     (tie.spec
     (λ c κs. search needs)
     (λ c κs. search needs)
+    (λ c κs. search needs)
     (λ c. search needs)
     returns
+    (λ c κs. search needs)
     (λ c κs. search needs)
     (λ c κs. search needs)
     (λ c. search needs)

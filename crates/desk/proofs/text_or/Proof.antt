@@ -22,11 +22,10 @@ returns c =
 returns-2 : tie.Need-returns-2
 returns-2 c =
     let x = c .before .before in
-    let l = x .before .before in
-    let r = l .before in
+    let r = x .before .before in
     let f = r .before .before in
     let a = f .before .before .before .before .before .before .before in
-    untold-text (a .pre .0) (f .is-accepted .ensures) (r .before .if1 .left) (r .refusal-in .ensures) (l .line-in .ensures) _ _ _ (x .refusal-text .ensures)
+    untold-text (a .pre .0) (f .is-accepted .ensures) (r .before .if1 .left) (r .complaint-in .ensures) _ _ _ (x .refusal-text .ensures)
 
 pub text-or-spec : {M : Type 1} → statement M
-text-or-spec = tie.close (tie.spec (λ c κs. search needs) (λ c κs. search needs) given (λ c. search needs) returns (λ c κs. search needs) (λ c κs. search needs) (λ c κs. search needs) (λ c. search needs) returns-2)
+text-or-spec = tie.close (tie.spec (λ c κs. search needs) (λ c κs. search needs) given (λ c. search needs) returns (λ c κs. search needs) (λ c κs. search needs) (λ c. search needs) returns-2)

@@ -11,13 +11,15 @@ use Rattle.listing_lines.proofs.refused_size.Tie as tie
 
 returns : tie.Need-returns
 returns c =
-    let a = c .before .before .before .args in
-    let n = c .before .before .number-of in
-    sized-as (refused-text (a .r) (a .l) (n .ensures))
-    (line-sized wRefused (decimal (n .result) ∷ decimal (a .l) ∷ [])
-    (rest-sized (decimal (a .l) ∷ []) (c .before .number-size .ensures) (rest-sized [] (c .number-size2 .ensures) end-sized)))
+    let x = c .before .before in
+    let n = x .before .number-of in
+    let a = x .before .before .args .c in
+    sized-as (refused-text a (n .ensures))
+    (line-sized wRefused (decimal (n .result) ∷ decimal (a .line) ∷ decimal (a .field) ∷ [])
+    (rest-sized (decimal (a .line) ∷ decimal (a .field) ∷ []) (x .number-size .ensures)
+    (rest-sized (decimal (a .field) ∷ []) (c .before .number-size2 .ensures) (rest-sized [] (c .number-size3 .ensures) end-sized))))
 
 pub refused-size-spec : {M : Type 1} → statement M
 refused-size-spec =
     tie.close
-    (tie.spec (search needs) (search needs) (search needs) (search needs) (search needs) (search needs) (search needs) (search needs) returns)
+    (tie.spec (search needs) (search needs) (search needs) (search needs) (search needs) (search needs) (search needs) (search needs) (search needs) (search needs) (search needs) returns)

@@ -12,7 +12,7 @@ returns c = simp (c .before .if1 .taken) (ap Accepted (c .record-of .ensures))
 
 returns-2 : tie.Need-returns-2
 unfolding finishBy
-returns-2 c = simp (c .if1 .left)
+returns-2 c = simp (c .before .if1 .left) (c .refuse .ensures)
 
 pub finish-spec : {M : Type 1} → statement M
-finish-spec = tie.close (tie.spec (λ c κs. search needs) returns returns-2)
+finish-spec = tie.close (tie.spec (λ c κs. search needs) (λ c κs. search needs) returns returns-2)

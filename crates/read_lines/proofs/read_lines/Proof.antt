@@ -59,15 +59,16 @@ returns c =
 
 returns-2 : tie.Need-returns-2 Inv-loop μ-loop
 returns-2 c =
-    let s = c .before .before .before .before .before .before .before .before .before .before .before .before .before .before .before .before .before .args .src .now in
-    let l = c .before .before .before .before .before .before .before .before .before .loop in
-    let x = c .before .before .before .before .before .before .before .before .read-line in
-    let h = not-false (x .result .line .ended) (c .before .before .before .before .before .if1 .left) in
-    let f = c .before .before .before .fault-in in
-    let y = c .before .before .is-clear in
-    let q = sym (y .ensures) ∙ not-true (y .result) (c .before .if2 .taken) in
+    let s = c .before .before .before .before .before .before .before .before .before .before .before .before .before .before .before .before .before .before .args .src .now in
+    let l = c .before .before .before .before .before .before .before .before .before .before .loop in
+    let x = c .before .before .before .before .before .before .before .before .before .read-line in
+    let h = not-false (x .result .line .ended) (c .before .before .before .before .before .before .if1 .left) in
+    let f = c .before .before .before .before .fault-in in
+    let y = c .before .before .before .is-clear in
+    let q = sym (y .ensures) ∙ not-true (y .result) (c .before .before .if2 .taken) in
+    let k = c .before .field-in in
     let z = c .refused in (
-      read-bad s (l .at) (l .n) (x .result) (x .ensures) (l .t) (l .c) (f .result) h (f .ensures) (z .result) q (z .ensures) ∙ sym (l .inv .6),
+      read-bad s (l .at) (l .n) (x .result) (x .ensures) (l .t) (l .c) (f .result) h (f .ensures) (k .result) (z .result) q (k .ensures) (z .ensures) ∙ sym (l .inv .6),
       (
         left-bad s (l .at) (l .n) (x .result) (x .ensures) (l .t) (l .c) vcpuPut (l .vt) (f .result) h (f .ensures) q ∙ sym (l .inv .7),
         (
@@ -115,5 +116,5 @@ loop-again c =
 pub read-lines-spec : {M : Type 1} → statement M
 read-lines-spec =
     tie.close
-    (tie.spec Inv-loop μ-loop (λ c κs. search needs) (λ c κs. search needs) loop-holds read-line-requires (λ c κs. search needs) (λ c κs. search needs) (λ c. search needs) (λ c. search needs) (λ c. search needs) (λ c. search needs) returns (λ c κs. search needs) (λ c κs. search needs) (λ c κs. search needs)
+    (tie.spec Inv-loop μ-loop (λ c κs. search needs) (λ c κs. search needs) loop-holds read-line-requires (λ c κs. search needs) (λ c κs. search needs) (λ c. search needs) (λ c. search needs) (λ c. search needs) (λ c. search needs) returns (λ c κs. search needs) (λ c κs. search needs) (λ c κs. search needs) (λ c κs. search needs)
     (λ c. search needs) (λ c. search needs) (λ c. search needs) (λ c. search needs) returns-2 (λ c κs. search needs) (λ c κs. search needs) (λ c κs. search needs) loop-less loop-again)

@@ -3,17 +3,16 @@ use Prim.Native.Nat.{_-_}
 use native.Mathlib.Omega.{arith}
 use borrow.Author.Needs.{needs}
 use lib.ListN.{length}
-use Rattle.plan.specs.Line.{bad}
 use Rattle.laws.specs.Fields.{Scanned}
 use Rattle.laws.specs.Steps.{scanned-none, scanned-more, scanned-stop, scanned-end, scanned-room}
 use Rattle.text_words.proofs.digits.Statement.{statement}
 use Rattle.text_words.proofs.digits.Tie as tie
 
 abbrev Inv-loop : tie.InvT-loop
-Inv-loop s v₀ i₀ v i = Scanned bad s v i
+Inv-loop s none v₀ i₀ v i = Scanned none s v i
 
 abbrev μ-loop : tie.MeasureT-loop
-μ-loop s v₀ i₀ v i = length s - i
+μ-loop s none v₀ i₀ v i = length s - i
 
 mul-v : tie.Need-mul-v Inv-loop μ-loop
 mul-v c = let l = c .before .before .before .before .loop in omega (arith, scanned-room 7 (l .inv) (omega arith) (omega arith))
