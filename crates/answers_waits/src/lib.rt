@@ -109,34 +109,6 @@ fn wait_at(
     times_waits::wait_answer(r, vt, mt, ts, rf, rows, v, m, limit)
 }
 
-// The place of a lock of task i on the mutex of its lock j: an earlier one where there is one.
-fn same_before(r: PlanRecord, vt: &[u64], mt: &[u64], ts: &[u64], i: usize, j: usize) -> usize
-    requires { ⌜ Fit r (now vt) (now mt) (now ts) × (i < r .tasks) × (j < 8) ⌝ }
-    ensures { λ x. ⌜ (x ≤ j) × (lockRow (now (ts .entry)) i x .m ≡ lockRow (now (ts .entry)) i j .m) ⌝ }
-{
-    let m = figures_cells::lock_cell(r, vt, mt, ts, i, j, 0);
-    let mut e = 0;
-    while e < j {
-        let x = figures_cells::lock_cell(r, vt, mt, ts, i, e, 0);
-        if x == m {
-            return e;
-        }
-        e += 1;
-    }
-    j
-}
-
-// Writes answer n: the same as answer e.
-fn copy_answer(xs: &mut [u64], e: usize, n: usize)
-    requires { ⌜ (e * 3 + 3 ≤ length (now xs)) × (n * 3 + 3 ≤ length (now xs)) ⌝ }
-    ensures { λ out. ⌜ now (xs .exit) ≡ pushed (now (xs .entry)) n (rowIn (now (xs .entry)) e) ⌝ }
-{
-    let x = xs[e * 3];
-    let y = xs[e * 3 + 1];
-    let z = xs[e * 3 + 2];
-    search::push_row(xs, n, x, y, z);
-}
-
 // Writes the answer of place k; waits of one task on one mutex are searched once.
 fn put_wait(
     r: PlanRecord,
@@ -157,9 +129,9 @@ fn put_wait(
         search::push_row(wa, k, 0, 0, 0);
         return;
     }
-    let e = same_before(r, vt, mt, ts, i, j);
+    let e = answers_copies::same_before(r, vt, mt, ts, i, j);
     if e < j {
-        copy_answer(wa, i * 8 + e, k);
+        answers_copies::copy_answer(wa, i * 8 + e, k);
         return;
     }
     let a = wait_at(r, vt, mt, ts, rf, rows, i, j);

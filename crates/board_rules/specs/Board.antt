@@ -15,7 +15,7 @@ use Rattle.plan.specs.Refusals.{unless}
 use Rattle.plan.specs.Rules.{within}
 use Rattle.board_rules.specs.Facts.{Facts}
 pub use Rattle.board_seats.specs.Seats.{seat}
-pub use Rattle.board_supply.specs.Supplies.{reserve, underP}
+pub use Rattle.board_reserves.specs.Supplies.{reserve, underP}
 pub use Rattle.board_rules.specs.declared.Board.{Board}
 pub use Rattle.board_rules.specs.declared.Event.{Event}
 pub use Rattle.board_rules.specs.declared.Event.the-variants.{Ask, Free, Use, Top, Show}

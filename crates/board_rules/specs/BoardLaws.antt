@@ -19,7 +19,7 @@ use Rattle.plan.specs.declared.Policy.{Policy}
 use Rattle.plan.specs.declared.OverrunChoice.{OverrunChoice}
 use Rattle.board_seats.specs.Seats as seats
 use Rattle.board_walks.specs.Walks as walks
-use Rattle.board_supply.specs.Supplies.{nextMark, useFaultAt, askFaultAt, freeFaultAt, vcpuGoodAt}
+use Rattle.board_reserves.specs.Supplies.{nextMark, useFaultAt, askFaultAt, freeFaultAt, vcpuGoodAt}
 use Rattle.board_turns.specs.Turns as turns
 use Rattle.board_turns.specs.Turns.{localNextAt, priorityAt, vcpuPriorityAt}
 use Rattle.board_rules.specs.View.{factsIn}

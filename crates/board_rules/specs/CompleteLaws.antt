@@ -12,8 +12,8 @@ use Rattle.plan.specs.declared.OverrunChoice.{OverrunChoice}
 use Rattle.plan.specs.declared.Refusal.the-variants.{Unknown, NotHolder}
 use Rattle.plan.specs.declared.Fault.the-variants.{Clear}
 use Rattle.board_seats.specs.Seats.{isGlobal, holdsIt}
-use Rattle.board_supply.specs.Supplies.{known, freeFaultAt}
-use Rattle.board_supply.specs.SupplyLaws.{known-range}
+use Rattle.board_reserves.specs.Supplies.{known, freeFaultAt}
+use Rattle.board_reserves.specs.SupplyLaws.{known-range}
 use Rattle.board_turns.specs.Turns.{mayHaveAt}
 use Rattle.board_rules.specs.Facts.{Facts}
 use Rattle.board_rules.specs.View.{factsIn}

@@ -15,8 +15,8 @@ use Rattle.plan.specs.declared.OverrunChoice.{OverrunChoice}
 use Rattle.plan.specs.declared.Fault.the-variants.{Clear}
 use Rattle.plan.specs.JudgeLaws.{clear-test}
 use Rattle.board_seats.specs.Seats.{isGlobal, budgetOf, overrunOf, hasVcpu}
-use Rattle.board_supply.specs.Supplies.{nextMark, markBy, budgetAfter, overrunAfter, askFaultAt, underP, reserve, idle, useFaultAt}
-use Rattle.board_supply.specs.SupplyLaws.{Known, known-range, vcpu-range, unless-yes, fits-left, mark-known}
+use Rattle.board_reserves.specs.Supplies.{nextMark, markBy, budgetAfter, overrunAfter, askFaultAt, underP, reserve, idle, useFaultAt}
+use Rattle.board_reserves.specs.SupplyLaws.{Known, known-range, vcpu-range, unless-yes, fits-left, mark-known}
 use Rattle.board_turns.specs.Turns.{mayHaveAt}
 use Rattle.board_rules.specs.Facts.{Facts}
 use Rattle.board_rules.specs.View.{factsIn}

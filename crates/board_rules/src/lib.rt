@@ -6,14 +6,14 @@ use plan::OverrunChoice;
 use plan::Policy;
 use plan::Refusal;
 ghost use mathlib.Core.Path.{_≡_};
-ghost use mathlib.Core.Bool.{Bool, true, false};
+ghost use mathlib.Core.Bool.{Bool, false};
 ghost use mathlib.Core.List.{List};
-ghost use Prim.Native.Nat.{ℕ, _-_, _≤_};
-ghost use lib.ListN.{length, set};
+ghost use Prim.Native.Nat.{ℕ, _≤_};
+ghost use lib.ListN.{length};
 ghost use Rattle.plan.specs.declared.Policy.{Policy};
 ghost use Rattle.plan.specs.declared.OverrunChoice.{OverrunChoice};
-ghost use Rattle.board_seats.specs.Seats.{seat, isGlobal};
-ghost use Rattle.board_supply.specs.Supplies.{nextMark, freeFaultAt};
+ghost use Rattle.board_seats.specs.Seats.{isGlobal};
+ghost use Rattle.board_reserves.specs.Supplies.{freeFaultAt};
 ghost use Rattle.board_turns.specs.Turns.{waiterV};
 ghost use Rattle.board_rules.specs.View.{factsIn};
 ghost use Rattle.board_rules.specs.Settle.{Marked};
@@ -62,16 +62,6 @@ pub struct Outcome {
     pub board: Board,
 }
 
-// The mark of v alone, when an event is complete: where no other mark is due and lacking, the board is settled.
-fn settle(policy: Policy, view: &[u64], left: &[u64], stopped: &mut [bool], holder: &[u16], v: u64)
-    requires { ⌜ (v ≤ 16) × (length (now stopped) ≡ 16) ⌝ }
-    ensures { λ r. ⌜ now (stopped .exit) ≡ set (now (stopped .entry)) (v - 1) (nextMark policy (now (view .entry)) (now (left .entry)) (now (stopped .entry)) (now (holder .entry)) v) ⌝ }
-{
-    let i = sub(v, 1) as usize;
-    let mark = board_supply::mark_after(policy, view, left, stopped, holder, v);
-    stopped[i] = mark;
-}
-
 // t ticks of v: the budget first, then the overrun.
 fn used(
     policy: Policy,
@@ -87,11 +77,11 @@ fn used(
     ensures { λ r. ⌜ ((c : OverrunChoice) (ws : List ℕ) → Marked (factsIn policy c (now (view .entry))) (boardOf (now (left .entry)) (now (over .entry)) (now (stopped .entry)) (now (holder .entry)) ws) → outcomeOf r (boardOf (now (left .exit)) (now (over .exit)) (now (stopped .exit)) (now (holder .entry)) ws) ≡ used (factsIn policy c (now (view .entry))) (boardOf (now (left .entry)) (now (over .entry)) (now (stopped .entry)) (now (holder .entry)) ws) v t) ⌝ }
 {
     let i = sub(v, 1) as usize;
-    let b = board_supply::budget_after(left, v, t);
-    let o = board_supply::overrun_after(left, over, v, t);
+    let b = board_reserves::budget_after(left, v, t);
+    let o = board_reserves::overrun_after(left, over, v, t);
     left[i] = b;
     over[i] = o;
-    settle(policy, view, left, stopped, holder, v);
+    board_puts::settle(policy, view, left, stopped, holder, v);
     BoardAnswer::Left { b, o }
 }
 
@@ -115,26 +105,6 @@ fn topped(
     BoardAnswer::Left { b, o }
 }
 
-// The seat h holds m now, none where h is 0.
-fn put_holder(holder: &mut [u16], m: u64, h: u64)
-    requires { ⌜ h ≤ 128 ⌝ }
-    ensures { λ r. ⌜ now (holder .exit) ≡ set (now (holder .entry)) (m - 1) h ⌝ }
-{
-    let i = sub(m, 1) as usize;
-    if i < holder.len() {
-        holder[i] = h as u16;
-    }
-}
-
-// Task (v, n) waits for w now, for none where w is 0.
-fn put_wait(waits: &mut [u8], v: u64, n: u64, w: u64)
-    requires { ⌜ (v ≤ 16) × (n ≤ 8) × (w ≤ 32) × (length (now waits) ≡ 128) ⌝ }
-    ensures { λ r. ⌜ now (waits .exit) ≡ set (now (waits .entry)) (seat v n - 1) w ⌝ }
-{
-    let i = sub(board_seats::seat(v, n), 1) as usize;
-    waits[i] = w as u8;
-}
-
 // The task (v, n), or nobody where n is 0.
 fn next_of(v: u64, n: u64) -> Next
     ensures { λ r. ⌜ r ≡ nextOf v n ⌝ }
@@ -152,11 +122,11 @@ fn hand(holder: &mut [u16], waits: &mut [u8], m: u64, v: u64, n: u64)
     ensures { λ r. ⌜ ((ls : List ℕ) (os : List ℕ) (ss : List Bool) → (boardOf ls os ss (now (holder .exit)) (now (waits .exit))) ≡ handedTo (boardOf ls os ss (now (holder .entry)) (now (waits .entry))) m (nextOf v n)) ⌝ }
 {
     if n == 0 {
-        put_holder(holder, m, 0);
+        board_puts::put_holder(holder, m, 0);
         return;
     }
-    put_holder(holder, m, board_seats::seat(v, n));
-    put_wait(waits, v, n, 0);
+    board_puts::put_holder(holder, m, board_seats::seat(v, n));
+    board_puts::put_wait(waits, v, n, 0);
 }
 
 // The highest VCPU that has a waiter for m, 0 for none: the rows are built only where somebody waits.
@@ -187,7 +157,7 @@ fn freed_global(
     let w = waiter(waits, m);
     let n = board_turns::waiter_n(waits, w, m);
     hand(holder, waits, m, w, n);
-    settle(policy, view, left, stopped, holder, v);
+    board_puts::settle(policy, view, left, stopped, holder, v);
     BoardAnswer::Freed(next_of(w, n))
 }
 
@@ -217,10 +187,10 @@ fn freed_local(
     requires { ⌜ (1 ≤ v) × (v ≤ 16) × (1 ≤ m) × (m ≤ 32) × (isGlobal (now view) m ≡ false) × (length (now stopped) ≡ 16) × (length (now waits) ≡ 128) ⌝ }
     ensures { λ r. ⌜ ((c : OverrunChoice) (os : List ℕ) → Marked (factsIn policy c (now (view .entry))) (boardOf (now (left .entry)) os (now (stopped .entry)) (now (holder .entry)) (now (waits .entry))) → outcomeOf r (boardOf (now (left .entry)) os (now (stopped .exit)) (now (holder .exit)) (now (waits .exit))) ≡ freedLocal (factsIn policy c (now (view .entry))) (boardOf (now (left .entry)) os (now (stopped .entry)) (now (holder .entry)) (now (waits .entry))) v m) ⌝ }
 {
-    put_holder(holder, m, 0);
+    board_puts::put_holder(holder, m, 0);
     let n = board_turns::next_local(view, holder, waits, v);
     grant(holder, waits, v, n);
-    settle(policy, view, left, stopped, holder, v);
+    board_puts::settle(policy, view, left, stopped, holder, v);
     BoardAnswer::Freed(next_of(v, n))
 }
 
@@ -307,10 +277,10 @@ impl Board {
         ensures { λ r. ⌜ outcomeOf r (boardOf (now (left .entry)) (now (over .entry)) (now (stopped .entry)) (now (holder .exit)) (now (waits .exit))) ≡ step (factsIn policy choice (now (view .entry))) (boardOf (now (left .entry)) (now (over .entry)) (now (stopped .entry)) (now (holder .entry)) (now (waits .entry))) (Event.Ask v n m) ⌝ }
     {
         if may {
-            put_holder(holder, m, board_seats::seat(v, n));
+            board_puts::put_holder(holder, m, board_seats::seat(v, n));
             return BoardAnswer::Granted;
         }
-        put_wait(waits, v, n, m);
+        board_puts::put_wait(waits, v, n, m);
         BoardAnswer::Waits
     }
 

@@ -11,7 +11,7 @@ ghost use mathlib.Core.List.{List};
 ghost use Prim.Native.Nat.{ℕ, _-_, _<_};
 ghost use lib.ListN.{length, getD};
 ghost use Rattle.board_seats.specs.Seats.{hasVcpu};
-ghost use Rattle.board_supply.specs.Supplies.{useFaultAt};
+ghost use Rattle.board_reserves.specs.Supplies.{useFaultAt};
 ghost use Rattle.board_walks.specs.Walks.{holdsGlobal};
 ghost use Rattle.board_rules.specs.View.{factsIn};
 ghost use Rattle.board_rules.specs.Settle.{Marked};
@@ -35,8 +35,8 @@ pub fn use_sure(
     ensures { λ r. ⌜ ((ws : List ℕ) → outcomeOf r (boardOf (now (left .exit)) (now (over .exit)) (now (stopped .exit)) (now (holder .entry)) ws) ≡ step (factsIn policy choice (now (view .entry))) (boardOf (now (left .entry)) (now (over .entry)) (now (stopped .entry)) (now (holder .entry)) ws) (Event.Use v 1)) ⌝ }
 {
     let i = sub(v, 1) as usize;
-    let b = board_supply::budget_after(left, v, 1);
-    let o = board_supply::overrun_after(left, over, v, 1);
+    let b = board_reserves::budget_after(left, v, 1);
+    let o = board_reserves::overrun_after(left, over, v, 1);
     left[i] = b;
     over[i] = o;
     let mark = board_supply::mark_by(policy, left, stopped, v, holds);

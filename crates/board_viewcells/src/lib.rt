@@ -29,7 +29,7 @@ fn overrun_of(r: PlanRecord, vt: &[u64], mt: &[u64], ts: &[u64], v: u64) -> u64
     ensures { λ x. ⌜ x ≡ overrunOf (systemIn r (now (vt .entry)) (now (mt .entry)) (now (ts .entry))) v ⌝ }
 {
     let o = r.overrun;
-    figures_found::overrun_by(o, figures_found::ght_of(r, vt, mt, ts, v))
+    figures_named::overrun_by(o, figures_named::ght_of(r, vt, mt, ts, v))
 }
 
 // The VCPU that m is local to, 0 for none.
@@ -65,7 +65,7 @@ fn has_task(r: PlanRecord, vt: &[u64], mt: &[u64], ts: &[u64], v: u64, n: u64) -
     ensures { λ x. ⌜ x ≡ hasTask (systemIn r (now (vt .entry)) (now (mt .entry)) (now (ts .entry))) v n ⌝ }
 {
     let e = r.tasks;
-    figures_found::task_row(r, vt, mt, ts, v, n) < e
+    figures_named::task_row(r, vt, mt, ts, v, n) < e
 }
 
 // 1 where the test holds, else 0.
@@ -90,7 +90,7 @@ pub fn view_cell(r: PlanRecord, vt: &[u64], mt: &[u64], ts: &[u64], k: u64) -> u
         return owner_of(r, vt, mt, ts, k - 31);
     }
     if k < 96 {
-        return figures_cells::ceiling_of(r, vt, mt, ts, k - 63);
+        return figures_sections::ceiling_of(r, vt, mt, ts, k - 63);
     }
     bit_of(has_task(r, vt, mt, ts, (k - 96) / 8 + 1, (k - 96) % 8 + 1))
 }

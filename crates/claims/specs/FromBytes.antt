@@ -29,10 +29,10 @@ use Rattle.figures.specs.Figures.{response}
 use Rattle.figures.specs.Named.{hasTask, taskAt, lockAt, hasSection, Placed}
 use Rattle.figures.specs.NamedLaws.{vcpu-named, task-named, lock-named, has-task-exactly, section-exactly}
 use Rattle.figures.specs.Answers.{vcpuAnswer, waitAnswer, taskAnswer}
-use Rattle.answers_rows.specs.declared.RowAnswer.the-variants.{Row, NoRow}
-use Rattle.answers_rows.specs.declared.TaskRowAnswer.the-variants.{TaskRow, NoTaskRow}
-use Rattle.answers_rows.specs.declared.FigureAnswer.the-variants.{Figure, NoFigure}
-use Rattle.answers_rows.specs.Asked.{hasPlace, vcpuRowOf, waitRowOf, taskRowOf, responseRowOf, vcpuAsked, waitAsked, taskAsked, responseAsked}
+use Rattle.answers_tasks.specs.declared.RowAnswer.the-variants.{Row, NoRow}
+use Rattle.answers_tasks.specs.declared.TaskRowAnswer.the-variants.{TaskRow, NoTaskRow}
+use Rattle.answers_tasks.specs.declared.FigureAnswer.the-variants.{Figure, NoFigure}
+use Rattle.answers_tasks.specs.Asked.{hasPlace, vcpuRowOf, waitRowOf, taskRowOf, responseRowOf, vcpuAsked, waitAsked, taskAsked, responseAsked}
 use Rattle.claims.specs.Reported.{RowsReported}
 use Rattle.claims.specs.Reports.{vcpu-answer-reports, wait-answer-reports, task-answer-reports}
 

@@ -14,6 +14,7 @@ use Rattle.given_test.proofs as given_test
 use Rattle.read_lines.proofs as read_lines
 use Rattle.read_plan.proofs as read_plan
 use Rattle.records_read.proofs as records_read
+use Rattle.answers_tasks.proofs as answers_tasks
 use Rattle.answers_rows.proofs as answers_rows
 use Rattle.listing_write.proofs as listing_write
 use Rattle.records_ask.proofs as records_ask
@@ -60,7 +61,7 @@ module _ {M : Type 1} (𝓤 : URA M) (H : Heap 𝓤) (A : Atoms 𝓤) (mem : Mem
   pub wait-time-once : Sure 𝓤 answers_rows.wait_time.ended (answers_rows.wait_time.clauses 𝓤 H A mem run)
   wait-time-once = (λ κs a. free 𝓤, λ κs a g h x y. of-one 𝓤 (λ p q i. (once p q i, x .1)))
 
-  pub task-time-once : Sure 𝓤 answers_rows.task_time.ended (answers_rows.task_time.clauses 𝓤 H A mem run)
+  pub task-time-once : Sure 𝓤 answers_tasks.task_time.ended (answers_tasks.task_time.clauses 𝓤 H A mem run)
   task-time-once = (λ κs a. free 𝓤, λ κs a g h x y. of-one 𝓤 (λ p q i. (once p q i, x .1)))
 
   pub section-response-once : Sure 𝓤 answers_rows.section_response.ended (answers_rows.section_response.clauses 𝓤 H A mem run)

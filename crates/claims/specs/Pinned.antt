@@ -19,9 +19,9 @@ use Rattle.read_answer.specs.declared.PlanAnswer.{PlanAnswer}
 use Rattle.records.specs.declared.Task.{Task}
 use Rattle.records.specs.Sheet.{tablesOf}
 use Rattle.records_read.specs.After.{ReadOut}
-use Rattle.records_ask.specs.declared.Question.{Question}
-use Rattle.records_ask.specs.declared.Replied.{Replied}
-use Rattle.records_ask.specs.Replies.{replyTo}
+use Rattle.records_reply.specs.declared.Question.{Question}
+use Rattle.records_reply.specs.declared.Replied.{Replied}
+use Rattle.records_reply.specs.Replies.{replyTo}
 use Rattle.listing.specs.Listing.{verdictText}
 use Rattle.listing_lines.specs.declared.TextAnswer.{TextAnswer}
 use Rattle.listing_lines.specs.Into.{textAnswer, textAfter}
@@ -41,6 +41,7 @@ use Rattle.given_test.proofs as given_test
 use Rattle.read_lines.proofs as read_lines
 use Rattle.read_plan.proofs as read_plan
 use Rattle.records_read.proofs as records_read
+use Rattle.answers_tasks.proofs as answers_tasks
 use Rattle.answers_rows.proofs as answers_rows
 use Rattle.listing_write.proofs as listing_write
 use Rattle.records_ask.proofs as records_ask
@@ -207,7 +208,7 @@ module _ {M : Type 1} (𝓤 : URA M) (H : Heap 𝓤) (A : Atoms 𝓤) (mem : Mem
   pub wait-time-stated : answers_rows.wait_time.spec 𝓤 H A mem run ≡ closing 𝓤 H A answers_rows.wait_time.ended (answers_rows.wait_time.clauses 𝓤 H A mem run)
   wait-time-stated = refl
 
-  pub task-time-stated : answers_rows.task_time.spec 𝓤 H A mem run ≡ closing 𝓤 H A answers_rows.task_time.ended (answers_rows.task_time.clauses 𝓤 H A mem run)
+  pub task-time-stated : answers_tasks.task_time.spec 𝓤 H A mem run ≡ closing 𝓤 H A answers_tasks.task_time.ended (answers_tasks.task_time.clauses 𝓤 H A mem run)
   task-time-stated = refl
 
   pub section-response-stated : answers_rows.section_response.spec 𝓤 H A mem run ≡ closing 𝓤 H A answers_rows.section_response.ended (answers_rows.section_response.clauses 𝓤 H A mem run)

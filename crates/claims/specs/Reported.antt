@@ -27,10 +27,10 @@ use Rattle.figures.specs.declared.TaskAnswer.{TaskAnswer}
 use Rattle.figures.specs.declared.TaskAnswer.the-variants.{Searched, NoWait, Held}
 use Rattle.figures.specs.Answers.{remoteWaits}
 use Rattle.figures.specs.Named.{Placed}
-use Rattle.answers_rows.specs.declared.RowAnswer.the-variants.{Row, NoRow}
-use Rattle.answers_rows.specs.declared.TaskRowAnswer.the-variants.{TaskRow, NoTaskRow}
-use Rattle.answers_rows.specs.declared.FigureAnswer.the-variants.{Figure, NoFigure}
-use Rattle.answers_rows.specs.Asked.{vcpuAsked, waitAsked, taskAsked, responseAsked}
+use Rattle.answers_tasks.specs.declared.RowAnswer.the-variants.{Row, NoRow}
+use Rattle.answers_tasks.specs.declared.TaskRowAnswer.the-variants.{TaskRow, NoTaskRow}
+use Rattle.answers_tasks.specs.declared.FigureAnswer.the-variants.{Figure, NoFigure}
+use Rattle.answers_tasks.specs.Asked.{vcpuAsked, waitAsked, taskAsked, responseAsked}
 use Rattle.listing.specs.Listing.{wWait, wAll, wFits, wLate, line, answerFields, taskFields, waitFields, rising, listing}
 use Rattle.listing.specs.ListingLaws.{Ended, Stands}
 

@@ -33,11 +33,11 @@ use Rattle.figures.specs.Demands.{vcpu-demand, wait-demand, task-demand}
 use Rattle.figures.specs.declared.TaskAnswer.{TaskAnswer}
 use Rattle.figures.specs.declared.TaskAnswer.the-variants.{Searched, NoWait, Held}
 use Rattle.figures.specs.Answers.{vcpuAnswer, waitAnswer, taskAnswer, ticksOf, isLate, remoteWaits, lacksWait, isHeld}
-use Rattle.answers_rows.specs.declared.RowAnswer.the-variants.{Row, NoRow}
-use Rattle.answers_rows.specs.declared.TaskRowAnswer.the-variants.{TaskRow, NoTaskRow}
-use Rattle.answers_rows.specs.declared.FigureAnswer.the-variants.{Figure, NoFigure}
+use Rattle.answers_tasks.specs.declared.RowAnswer.the-variants.{Row, NoRow}
+use Rattle.answers_tasks.specs.declared.TaskRowAnswer.the-variants.{TaskRow, NoTaskRow}
+use Rattle.answers_tasks.specs.declared.FigureAnswer.the-variants.{Figure, NoFigure}
 use Rattle.claims.specs.Reported.{systemFrom, HasNumber, Reports, NoNumber, HeldUp, VcpuReported, WaitReported, TaskReported}
-use Rattle.answers_rows.specs.Asked.{hasPlace, vcpuRowOf, waitRowOf, taskRowOf, responseRowOf, vcpuAsked, waitAsked, taskAsked, responseAsked}
+use Rattle.answers_tasks.specs.Asked.{hasPlace, vcpuRowOf, waitRowOf, taskRowOf, responseRowOf, vcpuAsked, waitAsked, taskAsked, responseAsked}
 
 -- THE SEARCHES REPORT SO
 fits-of : (a : Answer) (w : ℕ) → window a ≡ some w → (n : ℕ) × (a ≡ Fits w n)

@@ -83,7 +83,7 @@ fn tell_plan(r: PlanRecord, vt: &[u64], mt: &[u64], ot: &[u64], ts: &[u64], h: u
     let mut waits = [0u8; 128];
     let mut marks = [0u64; 424];
     let mut nexts = [0u64; 162];
-    clock_tables::begin(
+    clock_begins::begin(
         r,
         vt,
         mt,

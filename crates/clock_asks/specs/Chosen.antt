@@ -8,8 +8,8 @@ use Rattle.board_rules.specs.declared.Next.the-variants.{To}
 use Rattle.board_rules.specs.BoardLaws.{next-none, next-some}
 use Rattle.clock_rules.specs.Clock.{Timing, picked}
 use Rattle.clock_steps.specs.Picked.{nextV, nextN, nobody-picks, Chosen, Picked, nobody, somebody, picks}
-use Rattle.clock_asks.specs.AskCases.{dueTo}
-use Rattle.clock_asks.specs.Asked.{PickIs, Asker}
+use Rattle.clock_takes.specs.AskCases.{dueTo}
+use Rattle.clock_takes.specs.Asked.{PickIs, Asker}
 
 module _ {T : Timing} {c : ℕ} {b : Board} {d : List ℕ} where
   -- a task that is picked may be picked

@@ -21,11 +21,11 @@ use Rattle.clock_times.specs.Times.{timingIn, lengthsCell}
 use Rattle.clock_marks.specs.Marks.{doneCell, doneIn, boardOf}
 use Rattle.clock_steps.specs.Done.{by-seat}
 use Rattle.clock_steps.specs.Picked.{Chosen, is-ready}
-use Rattle.clock_asks.specs.AskCases.{dueTo}
+use Rattle.clock_takes.specs.AskCases.{dueTo}
 use Rattle.board_rules.specs.View.{factsIn}
 use Rattle.clock_going.specs.Going.{timingBy, Going}
-use Rattle.clock_picks.specs.Picking.{PicksV, PicksN, IsDue}
-use Rattle.clock_asks.specs.Asked.{PickIs}
+use Rattle.clock_dues.specs.Picking.{PicksV, PicksN, IsDue}
+use Rattle.clock_takes.specs.Asked.{PickIs}
 use Rattle.board_rules.specs.BoardLaws.{next-some}
 use Rattle.clock_asks.specs.Chosen.{picked-chosen}
 

@@ -18,10 +18,10 @@ use Rattle.clock_times.specs.Times.{timingIn}
 use Rattle.clock_marks.specs.Marks.{boardOf, runIn, doneIn}
 use Rattle.clock_lines.specs.Told.{RoomAt, told-length}
 use Rattle.clock_going.specs.Going.{timingBy, Going}
-use Rattle.clock_asks.specs.AskCases.{asks-none, asks-one}
+use Rattle.clock_takes.specs.AskCases.{asks-none, asks-one}
 use Rattle.clock_asks.specs.Coming.{Coming, Come, coming-first, coming-as, coming-room, coming-more, coming-last}
-use Rattle.clock_asks.specs.Asked.{PickIs, MayAsk, AskKept, AskMade, Asked}
-use Rattle.clock_asks.specs.AskLaws.{may-ask, ask-made}
+use Rattle.clock_takes.specs.Asked.{PickIs, MayAsk, AskKept, AskMade, Asked}
+use Rattle.clock_takes.specs.AskLaws.{may-ask, ask-made}
 use Rattle.board_rules.specs.BoardLaws.{next-some}
 use Rattle.clock_asks.specs.Chosen.{asker-picked, asker, asker-task}
 

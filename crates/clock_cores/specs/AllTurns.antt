@@ -13,7 +13,7 @@ use Rattle.clock_rules.specs.Trace.{linesAt}
 use Rattle.clock_marks.specs.Marks.{boardOf, runIn, doneIn}
 use Rattle.clock_lines.specs.Told.{RoomAt}
 use Rattle.clock_going.specs.Going.{timingBy, Going, Made}
-use Rattle.clock_asks.specs.Asked.{KnownPick}
+use Rattle.clock_takes.specs.Asked.{KnownPick}
 use Rattle.clock_uses.specs.Making.{made-none, made-then, made-length, room-begin, room-then}
 use Rattle.clock_turns.specs.Turned.{Turned}
 

@@ -17,7 +17,7 @@ use lib.ListN.{length, getD, replicate, getD-replicate}
 use Rattle.laws.specs.Choice.{if_then_else_}
 use Rattle.laws.specs.BoolLaws.{bool-cases}
 use Rattle.clock_misses.specs.DueLaws.{quiet-until}
-use Rattle.clock_nexts.specs.PartLaws.{nexts-later}
+use Rattle.clock_renews.specs.PartLaws.{nexts-later}
 use Rattle.clock_plains.specs.PlainTicks.{run-quiet}
 use Rattle.clock_reaches.specs.Stretches.{plainLength}
 use Rattle.clock_spends.specs.Spends.{Counted}

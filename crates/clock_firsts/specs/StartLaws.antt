@@ -18,7 +18,7 @@ use Rattle.plan.specs.declared.OverrunChoice.{OverrunChoice}
 use Rattle.clock_times.specs.Times.{atLengths}
 use Rattle.clock_marks.specs.Marks.{atDone, marksLength, spares, Sized}
 use Rattle.clock_puts.specs.Puts.{PutSupply}
-use Rattle.clock_puts.specs.SizedLaws.{sized-put-supply}
+use Rattle.clock_supplies.specs.SizedLaws.{sized-put-supply}
 use Rattle.clock_firsts.specs.Firsts.{DoneTo, SuppliedTo}
 
 -- THE TICKS DONE

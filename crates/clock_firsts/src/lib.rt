@@ -73,7 +73,7 @@ pub fn put_supplies(
 {
     let mut v = 1;
     while v <= 16 {
-        clock_puts::put_supply(choice, left, over, stopped, marks, v);
+        clock_supplies::put_supply(choice, left, over, stopped, marks, v);
         v += 1;
     }
 }

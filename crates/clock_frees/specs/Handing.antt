@@ -24,7 +24,7 @@ use Rattle.board_events.specs.Events.{answersBy, answers, boardBy, boardAfter}
 use Rattle.clock_rules.specs.Clock.{Timing, Asks, idles, idleUses, freeOf}
 use Rattle.clock_steps.specs.Asking.{Asking, spent, none-picked, none-due, has-asked, has-waited}
 use Rattle.clock_steps.specs.Hands.{handsOn, anyHandsOn}
-use Rattle.clock_frees.specs.Freed.{nextIn}
+use Rattle.clock_hands.specs.Freed.{nextIn}
 
 -- BY WHO IS NEXT
 abbrev pub goesOn : Next → Bool

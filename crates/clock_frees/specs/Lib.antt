@@ -1,3 +1,1 @@
-pub mod Holding
-pub mod Freed
 pub mod Handing

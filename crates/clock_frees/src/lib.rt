@@ -15,8 +15,8 @@ ghost use Rattle.clock_lines.specs.Told.{RoomAt};
 ghost use Rattle.clock_marks.specs.Marks.{Sized, Mirrors, boardOf, runIn, doneIn};
 ghost use Rattle.clock_steps.specs.Hands.{anyHandsOn};
 ghost use Rattle.clock_going.specs.Going.{timingBy, Going, Made};
-ghost use Rattle.clock_frees.specs.Holding.{holdsIn};
-ghost use Rattle.clock_frees.specs.Freed.{nextIn, NextIn, heldAt, Handed, Passed, GotGlobal, PutFreed, Frees};
+ghost use Rattle.clock_hands.specs.Holding.{holdsIn};
+ghost use Rattle.clock_hands.specs.Freed.{nextIn, NextIn, Passed, GotGlobal, PutFreed, Frees};
 ghost use Rattle.clock_frees.specs.Handing.{goesOn};
 
 // Where the text goes on after the work of a turn; and whether a mutex was handed on in it.
@@ -49,27 +49,6 @@ fn goes_on(next: Next) -> bool
     }
 }
 
-// What task (w, x) holds, by the holders.
-fn held_now(view: &[u64], holder: &[u16], w: u64, x: u64) -> u64
-    requires { ⌜ (w ≤ 16) × (x ≤ 8) ⌝ }
-    ensures { λ r. ⌜ r ≡ heldAt (now (view .entry)) (now (holder .entry)) w x ⌝ }
-{
-    if board_walks::held_global(view, holder, w, x) {
-        return 33;
-    }
-    board_walks::held_local(view, holder, w, x)
-}
-
-// Task (w, x), who waited, has been handed a mutex: it holds m, and the tasks of w hold a global mutex or not.
-fn handed(marks: &mut [u64], w: u64, x: u64, m: u64, global: bool)
-    requires { ⌜ Sized (now marks) × (0 < w) × (w ≤ 16) × (0 < x) × (x ≤ 8) ⌝ }
-    ensures { λ out. ⌜ Handed m global w x (now (marks .entry)) (now (marks .exit)) ⌝ }
-{
-    clock_puts::put_held(marks, w, x, m);
-    clock_puts::put_ready(marks, w, x, true);
-    clock_puts::put_in(marks, clock_puts::HOLDING, w, global);
-}
-
 // The next one has the mutex, where there is one: no mutex is walked over for a global one.
 fn passed(view: &[u64], holder: &[u16], marks: &mut [u64], global: bool, next: Next)
     requires { ⌜ Sized (now marks) × NextIn next × GotGlobal (now view) (now holder) global next ⌝ }
@@ -79,11 +58,11 @@ fn passed(view: &[u64], holder: &[u16], marks: &mut [u64], global: bool, next: N
         Next::Nobody => {}
         Next::To { v: w, n: x } => {
             if global {
-                handed(marks, w, x, 33, true);
+                clock_hands::handed(marks, w, x, 33, true);
             } else {
-                let m = held_now(view, holder, w, x);
+                let m = clock_hands::held_now(view, holder, w, x);
                 let held = board_walks::holds_global(view, holder, w);
-                handed(marks, w, x, m, held);
+                clock_hands::handed(marks, w, x, m, held);
             }
         }
     }

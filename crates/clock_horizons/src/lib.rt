@@ -56,7 +56,7 @@ fn horizon_fields(w: &[u8], f: &[u8]) -> HorizonAnswer
     ensures { λ r. ⌜ told r ≡ horizonIn (now (w .entry) ∷ now (f .entry) ∷ []) ⌝ }
 {
     if says(w, b"horizon") {
-        return horizon_of(text_words::number(f, 2));
+        return horizon_of(text_numbers::number(f, 2));
     }
     HorizonAnswer::Refuse(Refusal::Shape)
 }

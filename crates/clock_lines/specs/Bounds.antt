@@ -22,7 +22,7 @@ use Rattle.board_rules.specs.declared.BoardAnswer.the-variants.{Granted, Waits,
 use Rattle.board_events.specs.Events.{wFreed, wLeft, answerFields}
 use Rattle.log_replies.specs.Short.{one-long, number-low, plain-long, refused-short}
 use Rattle.clock_rules.specs.Trace.{wMissed, eventFields, eventLine, endLine, missedLine, refusedAlone}
-use Rattle.clock_lines.specs.EventLaws.{eventTabs, fields-join, answer-joins, ask-tabs, free-tabs, use-tabs, top-tabs, show-tabs}
+use Rattle.clock_words.specs.EventLaws.{eventTabs, fields-join, answer-joins, ask-tabs, free-tabs, use-tabs, top-tabs, show-tabs}
 
 -- the numbers of an event, and of an answer, are below 2 ^ 64
 abbrev pub EventLow : Event → Type 0

@@ -34,7 +34,7 @@ use Rattle.clock_times.specs.Times.{atLengths, refillCell, periodCell, timingIn
 use Rattle.clock_marks.specs.Marks.{doneCell, doneIn}
 use Rattle.clock_nexts.specs.Nexts.{places, placeOf, periodAt, nextAt, taskNext, rowAt, atTops, atJobs, never, isDue, missesAt, missesIn, missedV, missedN, Nexts, Tops, Row, Jobs, Periods, Quiet}
 use Rattle.clock_nexts.specs.LeastLaws.{due-test}
-use Rattle.clock_nexts.specs.PartLaws.{nexts-tops, nexts-jobs, nexts-later}
+use Rattle.clock_renews.specs.PartLaws.{nexts-tops, nexts-jobs, nexts-later}
 
 -- A NUMBER FOR EACH SEAT
 by-seat : (f : ℕ → ℕ → ℕ) (v n : ℕ) → InV v → InN n → doneOf (bySeat f) v n ≡ f v n

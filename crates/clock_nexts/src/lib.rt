@@ -2,34 +2,20 @@
 ghost use mathlib.Core.Path.{_≡_};
 ghost use Prim.Native.Nat.{ℕ, _<_, _≤_};
 ghost use mathlib.Core.Bool.{true};
-ghost use lib.ListN.{length, getD};
+ghost use lib.ListN.{length};
 ghost use Rattle.board_keeps.specs.Fair.{InV};
 ghost use Rattle.clock_sets.specs.Sets.{inSet};
-ghost use Rattle.clock_nexts.specs.Nexts.{renewed, renewal, sooner, Tops, Row, Jobs, Periods, HasTops, Wrote, Soonest, TopsRenewed, RowRenewed, RowsRenewed, JobsRenewed};
+ghost use Rattle.clock_nexts.specs.Nexts.{renewed, renewal, sooner, Row, Periods, HasTops, Wrote, Soonest, RowRenewed};
 
 // The sooner of two ticks.
-fn sooner(a: u64, b: u64) -> u64
+pub fn sooner(a: u64, b: u64) -> u64
     ensures { λ r. ⌜ r ≡ sooner a b ⌝ }
 {
     if a < b { a } else { b }
 }
 
-// The least of the cells from a to before e.
-fn soonest(nexts: &[u64], a: usize, e: usize) -> u64
-    requires { ⌜ (length (now nexts) ≡ 162) × (a ≤ e) × (e ≤ 162) ⌝ }
-    ensures { λ r. ⌜ Soonest (λ j. getD (now (nexts .entry)) j 0) a e r ⌝ }
-{
-    let mut r = 3000000;
-    let mut i = a;
-    while i < e {
-        r = sooner(nexts[i], r);
-        i += 1;
-    }
-    r
-}
-
 // The next, when tick t is over, of one with period p whose next was y.
-fn renewed(p: u64, y: u64, t: u64) -> u64
+pub fn renewed(p: u64, y: u64, t: u64) -> u64
     requires { ⌜ (p ≤ 1000000) × (t ≤ 1000000) ⌝ }
     ensures { λ r. ⌜ r ≡ renewed p y t ⌝ }
 {
@@ -78,63 +64,12 @@ pub fn recurring(times: &[u64]) -> u64
     s
 }
 
-// The same for the VCPUs of a set that has all that recur: the others have no next.
-fn renew_set(times: &[u64], nexts: &mut [u64], all: u64, t: u64) -> u64
-    requires { ⌜ Periods (now times) × (length (now nexts) ≡ 162) × Tops (now times) (now nexts) t × (t ≤ 1000000) × HasTops (now times) all ⌝ }
-    ensures { λ r. ⌜ Wrote (renewal (now (times .entry)) (now (nexts .entry)) t) (now (nexts .entry)) (now (nexts .exit)) 0 16 × Soonest (renewal (now (times .entry)) (now (nexts .entry)) t) 0 16 r ⌝ }
-{
-    let mut r = 3000000;
-    let mut rest = all;
-    while rest != 0 {
-        let v = clock_sets::lowest_in(rest);
-        let i = v as usize - 1;
-        let y = renewed(times[16 + i], nexts[i], t);
-        nexts[i] = y;
-        r = sooner(y, r);
-        rest = clock_sets::without(rest, v);
-    }
-    r
-}
-
-// Writes the next tops, when those of tick t are made: only the VCPUs of the set, which has all that recur, are looked at.
-pub fn renew_tops(times: &[u64], nexts: &mut [u64], all: u64, t: u64)
-    requires { ⌜ Periods (now times) × (length (now nexts) ≡ 162) × Tops (now times) (now nexts) t × (t ≤ 1000000) × HasTops (now times) all ⌝ }
-    ensures { λ out. ⌜ TopsRenewed (now (times .entry)) (now (nexts .entry)) (now (nexts .exit)) t ⌝ }
-{
-    let r = renew_set(times, nexts, all, t);
-    nexts[160] = r;
-}
-
 // Writes the next releases of v's tasks, when those of tick t are made.
-fn renew_row(times: &[u64], nexts: &mut [u64], v: usize, t: u64)
+pub fn renew_row(times: &[u64], nexts: &mut [u64], v: usize, t: u64)
     requires { ⌜ Periods (now times) × (length (now nexts) ≡ 162) × (0 < v) × (v ≤ 16) × Row (now times) (now nexts) t v × (t ≤ 1000000) ⌝ }
     ensures { λ out. ⌜ RowRenewed (now (times .entry)) (now (nexts .entry)) (now (nexts .exit)) t v ⌝ }
 {
     let a = 8 + v * 8;
     let r = renew(times, nexts, a, a + 8, t);
     nexts[143 + v] = r;
-}
-
-// The same for each row that is due.
-fn renew_rows(times: &[u64], nexts: &mut [u64], t: u64)
-    requires { ⌜ Periods (now times) × (length (now nexts) ≡ 162) × Jobs (now times) (now nexts) t × (t ≤ 1000000) ⌝ }
-    ensures { λ out. ⌜ RowsRenewed (now (times .entry)) (now (nexts .entry)) (now (nexts .exit)) t 16 ⌝ }
-{
-    let mut i = 0;
-    while i < 16 {
-        if nexts[144 + i] == t {
-            renew_row(times, nexts, i + 1, t);
-        }
-        i += 1;
-    }
-}
-
-// Writes the next releases, when those of tick t are made.
-pub fn renew_jobs(times: &[u64], nexts: &mut [u64], t: u64)
-    requires { ⌜ Periods (now times) × (length (now nexts) ≡ 162) × Jobs (now times) (now nexts) t × (t ≤ 1000000) ⌝ }
-    ensures { λ out. ⌜ JobsRenewed (now (times .entry)) (now (nexts .entry)) (now (nexts .exit)) t ⌝ }
-{
-    renew_rows(times, nexts, t);
-    let r = soonest(nexts, 144, 160);
-    nexts[161] = r;
 }

@@ -31,7 +31,7 @@ use Rattle.clock_times.specs.Times.{timingIn}
 use Rattle.clock_marks.specs.Marks.{atHeld, tasksCell, holdersCell, heldCell, heldBy, globalMark, doneIn, Mirrors}
 use Rattle.laws_picks.specs.SameLaws.{top-same}
 use Rattle.clock_picks.specs.Tops.{top-plain, top-one}
-use Rattle.clock_picks.specs.Picking.{rankOf, PicksN}
+use Rattle.clock_dues.specs.Picking.{rankOf, PicksN}
 
 -- THE PRIORITY of a task is its rank by what it holds
 

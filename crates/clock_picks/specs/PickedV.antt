@@ -22,7 +22,7 @@ use Rattle.clock_sets.specs.SetLaws.{in-none, some-vcpu}
 use Rattle.clock_marks.specs.Marks.{atCores, atBudget, atSpare, atReady, atHolding, spares, doneIn, Mirrors}
 use Rattle.laws_picks.specs.SameLaws.{any-same}
 use Rattle.clock_picks.specs.Tops.{top-plain, top-raised}
-use Rattle.clock_picks.specs.Picking.{isCandidate, Idlers}
+use Rattle.clock_dues.specs.Picking.{isCandidate, Idlers}
 
 -- AWAKE: with budget, or with an overrun that counts under a global mutex
 

@@ -1,4 +1,2 @@
 pub mod Puts
 pub mod PutLaws
-pub mod SizedLaws
-pub mod CoreLaws

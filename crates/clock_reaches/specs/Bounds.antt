@@ -19,7 +19,7 @@ use Rattle.clock_sets.specs.Sets.{inSet, Without}
 use Rattle.clock_sets.specs.SetLaws.{some-vcpu, in-none}
 use Rattle.clock_rules.specs.Clock.{Timing, isOn, hasReady}
 use Rattle.clock_marks.specs.Marks.{doneIn, Mirrors}
-use Rattle.clock_picks.specs.Picking.{Idlers}
+use Rattle.clock_dues.specs.Picking.{Idlers}
 use Rattle.clock_reaches.specs.Stretches.{ticksCell, Idles, Within}
 
 module _ {s : ℕ} (is-set : s < 65536) (nz : s ≡ 0 → ⊥) {v : ℕ} (e : v ≡ lowest 16 (inSet s)) where

@@ -25,8 +25,8 @@ use Rattle.clock_rules.specs.Clock.{Timing, doneOf}
 use Rattle.clock_steps.specs.Done.{by-seat}
 use Rattle.clock_times.specs.Times.{atBegin, atEnd, atMutex, lockCell, mutexWith, lockWith, lengthsCell, timingIn, Ordered}
 use Rattle.clock_marks.specs.Marks.{atPlace, atDone, doneCell, placeCell, doneIn, Ended, Mirrors}
-use Rattle.clock_picks.specs.Picking.{mutexAt}
-use Rattle.clock_picks.specs.Places.{begins-at, ends-at}
+use Rattle.clock_dues.specs.Picking.{mutexAt}
+use Rattle.clock_dues.specs.Places.{begins-at, ends-at}
 use Rattle.clock_plains.specs.Plains.{dueAt, Goes}
 use Rattle.clock_plains.specs.PlainMirrors.{ended-later}
 use Rattle.clock_reaches.specs.Stretches.{nextCell, Stretch}

@@ -4,7 +4,7 @@ use board_seats::seat;
 use plan::Policy;
 ghost use mathlib.Core.Path.{_≡_};
 ghost use lib.ListN.{getD};
-ghost use Rattle.board_supply.specs.Supplies.{underP};
+ghost use Rattle.board_reserves.specs.Supplies.{underP};
 ghost use Prim.Native.Nat.{ℕ, _-_, _<_, _≤_};
 ghost use Rattle.board_keeps.specs.Fair.{InV, InN};
 ghost use Rattle.clock_times.specs.Times.{lengthsCell, Ordered};

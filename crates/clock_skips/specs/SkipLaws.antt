@@ -18,7 +18,7 @@ use Rattle.clock_nexts.specs.Nexts.{Nexts, Quiet, atTops, atJobs, sooner}
 use Rattle.clock_nexts.specs.ScanLaws.{sooner-it, sooner-not}
 use Rattle.clock_misses.specs.DueLaws.{quiet-until}
 use Rattle.clock_going.specs.Going.{timingBy, Going}
-use Rattle.clock_opens.specs.Opens.{Opening}
+use Rattle.clock_releases.specs.Opens.{Opening}
 use Rattle.clock_reaches.specs.Stretches.{ticksCell}
 use Rattle.clock_spends.specs.Spends.{Counted}
 use Rattle.clock_spends.specs.AllSpending.{Ready, AllReady, SpentAll, ready-last, all-ticks}

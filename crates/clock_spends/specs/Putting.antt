@@ -18,7 +18,7 @@ use Rattle.clock_rules.specs.Clock.{Timing, pickV, pickN, dueOf}
 use Rattle.clock_times.specs.Times.{timingIn, lengthsCell, Ordered}
 use Rattle.clock_marks.specs.Marks.{boardOf, doneIn, doneCell, placeCell, Ended}
 use Rattle.clock_steps.specs.Picked.{Chosen}
-use Rattle.clock_picks.specs.Picking.{PicksV, PicksN}
+use Rattle.clock_dues.specs.Picking.{PicksV, PicksN}
 use Rattle.clock_going.specs.Going.{timingBy, Going}
 use Rattle.clock_asks.specs.PickLaws.{pick-none, pick-chosen, pick-some, unfinished-cells}
 use Rattle.clock_reaches.specs.Stretches.{plainLength, Stretch, Idles, Within}

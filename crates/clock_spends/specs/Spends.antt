@@ -13,7 +13,7 @@ use Rattle.board_keeps.specs.Fair.{InV}
 use Rattle.clock_rules.specs.Clock.{Timing}
 use Rattle.clock_sets.specs.Sets.{inSet}
 use Rattle.clock_marks.specs.Marks.{doneCell, doneIn, Sized, Mirrors}
-use Rattle.clock_asks.specs.Asked.{KnownPick}
+use Rattle.clock_takes.specs.Asked.{KnownPick}
 use Rattle.clock_plains.specs.Plains.{Plain, loses}
 use Rattle.clock_plains.specs.PlainMirrors.{keptAfter}
 use Rattle.clock_reaches.specs.Stretches.{plainLength, ticksCell, vcpuCell, taskCell, Idles}

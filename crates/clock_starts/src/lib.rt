@@ -27,7 +27,7 @@ pub fn start(
     clock_firsts::put_vcpus(view, left, over, stopped);
     clock_firsts::put_holders(holder);
     clock_firsts::put_waits(waits);
-    clock_puts::clear_marks(times, marks);
+    clock_supplies::clear_marks(times, marks);
     clock_firsts::put_lengths(times, marks);
     clock_firsts::put_supplies(choice, left, over, stopped, marks);
     clock_firsts::put_nexts(times, nexts);

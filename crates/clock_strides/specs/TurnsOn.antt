@@ -18,7 +18,7 @@ use Rattle.clock_times.specs.Times.{timingIn}
 use Rattle.clock_marks.specs.Marks.{boardOf, runIn, doneIn}
 use Rattle.clock_steps.specs.Hands.{anyHandsOn}
 use Rattle.clock_going.specs.Going.{timingBy, Going}
-use Rattle.clock_asks.specs.Asked.{KnownPick}
+use Rattle.clock_takes.specs.Asked.{KnownPick}
 use Rattle.clock_plains.specs.Plains.{Plain}
 use Rattle.clock_alone.specs.Beside.{plain-beside, picked-beside}
 use Rattle.clock_reaches.specs.Stretches.{ticksCell, vcpuCell, taskCell}

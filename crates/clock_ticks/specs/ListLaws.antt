@@ -15,7 +15,7 @@ use Rattle.clock_marks.specs.Marks.{boardOf, runIn}
 use Rattle.board_rules.specs.BoardLaws.{next-none, next-some}
 use Rattle.clock_lines.specs.Told.{RoomAt}
 use Rattle.clock_going.specs.Going.{timingBy, Going, Made}
-use Rattle.clock_opens.specs.Opens.{Opening}
+use Rattle.clock_releases.specs.Opens.{Opening}
 use Rattle.clock_turns.specs.Turned.{Turned}
 use Rattle.clock_ticks.specs.Ticks.{Ticking}
 use Rattle.clock_ticks.specs.TickLaws as laws

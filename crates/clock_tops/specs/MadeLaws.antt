@@ -20,7 +20,7 @@ use Rattle.clock_marks.specs.Marks.{boardOf}
 use Rattle.clock_lines.specs.Told.{RoomAt}
 use Rattle.clock_nexts.specs.Nexts.{atTops, Nexts, TopsRenewed}
 use Rattle.clock_nexts.specs.WriteLaws.{tops-later}
-use Rattle.clock_nexts.specs.PartLaws.{nexts-tops, nexts-jobs, renewed-jobs}
+use Rattle.clock_renews.specs.PartLaws.{nexts-tops, nexts-jobs, renewed-jobs}
 use Rattle.clock_misses.specs.DueLaws.{tops-due, no-tops-due}
 use Rattle.clock_going.specs.Going.{timingBy, Going}
 use Rattle.clock_tops.specs.Topping.{topsTo, Topped, TopsMade}

@@ -38,7 +38,7 @@ fn top(
     ensures { λ r. ⌜ OneTop (factsIn policy choice (now (view .entry))) choice on t v (boardOf (now (left .entry)) (now (over .entry)) (now (stopped .entry)) (now (holder .entry)) (now (waits .entry))) (now (marks .entry)) (now (out .entry)) at (boardOf (now (left .exit)) (now (over .exit)) (now (stopped .exit)) (now (holder .entry)) (now (waits .entry))) (now (marks .exit)) (now (out .exit)) r ⌝ }
 {
     let a = Board::top_in(policy, choice, view, left, over, stopped, holder, v);
-    clock_puts::put_supply(choice, left, over, stopped, marks, v);
+    clock_supplies::put_supply(choice, left, over, stopped, marks, v);
     clock_lines::tell(on, out, at, t, Event::Top { v }, a)
 }
 
@@ -134,6 +134,6 @@ pub fn tops_due(
         out,
         at,
     );
-    clock_nexts::renew_tops(times, nexts, all, t);
+    clock_renews::renew_tops(times, nexts, all, t);
     w
 }

@@ -29,7 +29,7 @@ use Rattle.clock_steps.specs.WorkTurn.{idle-working}
 use Rattle.clock_lines.specs.Told.{RoomAt}
 use Rattle.clock_steps.specs.Hands.{anyHandsOn}
 use Rattle.clock_going.specs.Going.{timingBy, Going, Made}
-use Rattle.clock_asks.specs.Asked.{Asked}
+use Rattle.clock_takes.specs.Asked.{Asked}
 use Rattle.board_rules.specs.BoardLaws.{next-none, next-some}
 use Rattle.clock_uses.specs.Making.{made-none, made-then, room-begin, room-then}
 use Rattle.clock_works.specs.Worked.{WorkerOn}

@@ -4,7 +4,7 @@ use plan::OverrunChoice;
 use plan::Policy;
 ghost use mathlib.Core.Path.{_≡_};
 ghost use Prim.Native.Nat.{_≤_};
-ghost use Rattle.board_supply.specs.Supplies.{underP};
+ghost use Rattle.board_reserves.specs.Supplies.{underP};
 ghost use Rattle.board_rules.specs.Board.{nextOf};
 ghost use Rattle.board_rules.specs.View.{factsIn};
 ghost use Rattle.board_events.specs.Events.{answers};
@@ -14,7 +14,7 @@ ghost use Rattle.clock_marks.specs.Marks.{boardOf, runIn, doneIn};
 ghost use Rattle.clock_lines.specs.Told.{RoomAt};
 ghost use Rattle.clock_steps.specs.Hands.{anyHandsOn};
 ghost use Rattle.clock_going.specs.Going.{timingBy, Going};
-ghost use Rattle.clock_asks.specs.Asked.{KnownPick};
+ghost use Rattle.clock_takes.specs.Asked.{KnownPick};
 ghost use Rattle.clock_turns.specs.Turned.{Turned, Did, Uses};
 
 // Policy P holds.

@@ -29,7 +29,7 @@ use Rattle.clock_rules.specs.Clock.{Timing, Run, isOn, hasReady, idles, idleUse
 use Rattle.clock_rules.specs.Trace.{linesAt}
 use Rattle.clock_times.specs.Times.{timingIn}
 use Rattle.clock_marks.specs.Marks.{boardOf, runIn, doneIn}
-use Rattle.clock_picks.specs.Picking.{Idlers}
+use Rattle.clock_dues.specs.Picking.{Idlers}
 use Rattle.clock_steps.specs.Accepted.{Accepted}
 use Rattle.clock_steps.specs.IdleTurn.{idle-accepted}
 use Rattle.clock_lines.specs.Told.{RoomAt}

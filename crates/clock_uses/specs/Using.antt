@@ -16,7 +16,7 @@ use Rattle.plan.specs.declared.Fault.{Fault}
 use Rattle.plan.specs.declared.Fault.the-variants.{Clear, Bad}
 use Rattle.board_seats.specs.Seats.{hasVcpu}
 use Rattle.board_walks.specs.Walks as walks
-use Rattle.board_supply.specs.Supplies.{useFaultAt}
+use Rattle.board_reserves.specs.Supplies.{useFaultAt}
 use Rattle.board_rules.specs.Facts.{Facts}
 use Rattle.board_rules.specs.View.{factsIn}
 use Rattle.board_rules.specs.declared.Board.{Board}

@@ -7,7 +7,7 @@ ghost use mathlib.Core.Path.{_≡_};
 ghost use mathlib.Core.Bool.{true};
 ghost use mathlib.Core.List.{[], _∷_};
 ghost use Prim.Native.Nat.{_<_, _≤_};
-ghost use Rattle.board_supply.specs.Supplies.{underP};
+ghost use Rattle.board_reserves.specs.Supplies.{underP};
 ghost use Rattle.board_rules.specs.View.{factsIn};
 ghost use Rattle.clock_rules.specs.Clock.{idleUses};
 ghost use Rattle.clock_rules.specs.Trace.{linesAt};
@@ -29,7 +29,7 @@ pub fn after_use(
     ensures { λ out. ⌜ AfterUse choice (now (left .entry)) (now (over .entry)) (now (stopped .entry)) (now (marks .entry)) (now (marks .exit)) v ⌝ }
 {
     if board_seats::figure(left, v) == 0 {
-        clock_puts::put_supply(choice, left, over, stopped, marks, v);
+        clock_supplies::put_supply(choice, left, over, stopped, marks, v);
     }
 }
 

@@ -25,9 +25,9 @@ use Rattle.clock_rules.specs.Clock.{Timing, doneOf, isReady, freeOf, work, work
 use Rattle.clock_rules.specs.Trace.{linesAt}
 use Rattle.clock_times.specs.Times.{timingIn, lengthsCell}
 use Rattle.clock_marks.specs.Marks.{atTasks, atHolders, atDone, atPlace, atCores, boardOf, runIn, doneIn, doneCell, placeCell, Sized, Mirrors}
-use Rattle.clock_picks.specs.Picking.{IsOver}
+use Rattle.clock_dues.specs.Picking.{IsOver}
 use Rattle.clock_marks.specs.Changes.{PutReady}
-use Rattle.clock_puts.specs.SizedLaws.{sized-done}
+use Rattle.clock_supplies.specs.SizedLaws.{sized-done}
 use Rattle.clock_mirrors.specs.Writes.{PutJob}
 use Rattle.clock_mirrors.specs.Places.{placeAfter, ends-at}
 use Rattle.clock_mirrors.specs.Works.{PutUnready, work-mirrors, work-done}
@@ -43,7 +43,7 @@ use Rattle.clock_steps.specs.Hands.{anyHandsOn}
 use Rattle.clock_going.specs.Going.{timingBy, Going, Made}
 use Rattle.clock_uses.specs.Making.{made-then, room-begin, room-then}
 use Rattle.clock_uses.specs.Using.{Uses}
-use Rattle.clock_frees.specs.Freed.{Frees, nextIn, freed-answer, lengths-in}
+use Rattle.clock_hands.specs.Freed.{Frees, nextIn, freed-answer, lengths-in}
 use Rattle.clock_frees.specs.Handing.{hands-after}
 
 -- (v, n) is what some core picked

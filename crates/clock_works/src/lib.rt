@@ -91,7 +91,7 @@ pub fn work(
             at,
         )
     };
-    let m = clock_picks::over(times, marks, v, n);
+    let m = clock_dues::over(times, marks, v, n);
     let freed = clock_frees::freeing(
         on,
         policy,

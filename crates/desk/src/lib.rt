@@ -71,7 +71,7 @@ fn text_into(
     if on {
         return log_text::answers_into(r, vt, mt, ot, ts, src, out);
     }
-    listing_write::listing_into(r, vt, mt, ts, out)
+    listing_puts::listing_into(r, vt, mt, ts, out)
 }
 
 // The same for an accepted plan; for a refused one its line.

@@ -11,7 +11,7 @@ ghost use Rattle.laws.specs.Rows.{Is};
 ghost use Rattle.plan_tables.specs.Layout.{vcpuRow, lockRow, taskRow};
 ghost use Rattle.figures.specs.Tabled.{Fit, systemIn};
 ghost use Rattle.figures.specs.Parts.{lowerSum, higherSum};
-ghost use Rattle.figures.specs.Figures.{lowerTask, higherTask, longestGlobal, localBlocking, load, preemption, responseBy, response};
+ghost use Rattle.figures.specs.Figures.{higherTask, longestGlobal, localBlocking, load, preemption, responseBy, response};
 ghost use Rattle.figures_slices.specs.Stored.{TasksIn, BlockingsIn, VcpusIn, PreemptionsIn, sectionResponse, maxResponse, ResponsesIn, responseFor, Stored};
 
 // Writes the first four numbers of task i.
@@ -33,40 +33,12 @@ fn fill_tasks(r: PlanRecord, vt: &[u64], mt: &[u64], ts: &[u64], tf: &mut [u64])
     let n = r.tasks;
     let mut i = 0;
     while i < n {
-        let x = figures_cells::longest_global(r, vt, mt, ts, i);
-        let y = figures_cells::global_sum(r, vt, mt, ts, i);
-        let z = figures_cells::global_count(r, vt, mt, ts, i);
-        let w = figures_cells::lengths_of(r, vt, mt, ts, i);
+        let x = figures_sections::longest_global(r, vt, mt, ts, i);
+        let y = figures_sections::global_sum(r, vt, mt, ts, i);
+        let z = figures_sections::global_count(r, vt, mt, ts, i);
+        let w = figures_sections::lengths_of(r, vt, mt, ts, i);
         put_task(tf, i, x, y, z, w);
         i += 1;
-    }
-}
-
-// The longest global section of task h, as stored.
-fn longest_at(r: PlanRecord, vt: &[u64], mt: &[u64], ts: &[u64], tf: &[u64], h: usize) -> u64
-    requires { ⌜ Fit r (now vt) (now mt) (now ts) × TasksIn r (now vt) (now mt) (now ts) (now tf) × (h < r .tasks) ⌝ }
-    ensures { λ x. ⌜ Is x (longestGlobal (systemIn r (now (vt .entry)) (now (mt .entry)) (now (ts .entry))) (taskRow (now (ts .entry)) h)) 1000000 ⌝ }
-{
-    tf[h * 5]
-}
-
-// The longest global section by which task h blocks task i.
-fn blocks_global(
-    r: PlanRecord,
-    vt: &[u64],
-    mt: &[u64],
-    ts: &[u64],
-    tf: &[u64],
-    i: usize,
-    h: usize,
-) -> u64
-    requires { ⌜ Fit r (now vt) (now mt) (now ts) × TasksIn r (now vt) (now mt) (now ts) (now tf) × (i < r .tasks) × (h < r .tasks) ⌝ }
-    ensures { λ x. ⌜ Is x (when (lowerTask (taskRow (now (ts .entry)) i) (taskRow (now (ts .entry)) h)) (longestGlobal (systemIn r (now (vt .entry)) (now (mt .entry)) (now (ts .entry))) (taskRow (now (ts .entry)) h))) 1000000 ⌝ }
-{
-    if figures_cells::is_lower(r, vt, mt, ts, i, h) {
-        longest_at(r, vt, mt, ts, tf, h)
-    } else {
-        0
     }
 }
 
@@ -79,7 +51,7 @@ fn lower_sum(r: PlanRecord, vt: &[u64], mt: &[u64], ts: &[u64], tf: &[u64], i: u
     let mut s: u64 = 0;
     let mut h = 0;
     while h < n {
-        let x = blocks_global(r, vt, mt, ts, tf, i, h);
+        let x = figures_blocks::blocks_global(r, vt, mt, ts, tf, i, h);
         s = s + x;
         h += 1;
     }
@@ -91,7 +63,7 @@ fn local_blocking(r: PlanRecord, vt: &[u64], mt: &[u64], ts: &[u64], tf: &[u64],
     requires { ⌜ Fit r (now vt) (now mt) (now ts) × TasksIn r (now vt) (now mt) (now ts) (now tf) × (i < r .tasks) ⌝ }
     ensures { λ x. ⌜ Is x (localBlocking (systemIn r (now (vt .entry)) (now (mt .entry)) (now (ts .entry))) (taskRow (now (ts .entry)) i)) 585000000 ⌝ }
 {
-    let longest = figures_cells::greatest_local(r, vt, mt, ts, i);
+    let longest = figures_sections::greatest_local(r, vt, mt, ts, i);
     let sum = lower_sum(r, vt, mt, ts, tf, i);
     (longest + sum) * (tf[i * 5 + 2] + 1)
 }
@@ -115,8 +87,8 @@ fn load_at(r: PlanRecord, vt: &[u64], mt: &[u64], ts: &[u64], tf: &[u64], i: usi
     requires { ⌜ Fit r (now vt) (now mt) (now ts) × TasksIn r (now vt) (now mt) (now ts) (now tf) × (i < r .tasks) × (h < r .tasks) ⌝ }
     ensures { λ x. ⌜ Is x (when (higherTask (taskRow (now (ts .entry)) i) (taskRow (now (ts .entry)) h)) (longestGlobal (systemIn r (now (vt .entry)) (now (mt .entry)) (now (ts .entry))) (taskRow (now (ts .entry)) h))) 1000000 ⌝ }
 {
-    if figures_found::is_higher(r, vt, mt, ts, i, h) {
-        longest_at(r, vt, mt, ts, tf, h)
+    if figures_named::is_higher(r, vt, mt, ts, i, h) {
+        figures_blocks::longest_at(r, vt, mt, ts, tf, h)
     } else {
         0
     }
@@ -201,7 +173,7 @@ fn response_of(
     requires { ⌜ Fit r (now vt) (now mt) (now ts) × TasksIn r (now vt) (now mt) (now ts) (now tf) × VcpusIn r (now vt) (now mt) (now ts) (now vf) × PreemptionsIn r (now vt) (now mt) (now ts) (now vf) × (i < r .tasks) × (j < 8) ⌝ }
     ensures { λ x. ⌜ Is x (response (systemIn r (now (vt .entry)) (now (mt .entry)) (now (ts .entry))) (taskRow (now (ts .entry)) i) (lockRow (now (ts .entry)) i j)) maxResponse ⌝ }
 {
-    let a = figures_found::vcpu_of(r, vt, mt, ts, figures_cells::task_cell(r, vt, mt, ts, i, 0));
+    let a = figures_named::vcpu_of(r, vt, mt, ts, figures_cells::task_cell(r, vt, mt, ts, i, 0));
     let load = figures_cells::lock_cell(r, vt, mt, ts, i, j, 1) + higher_sum(r, vt, mt, ts, tf, i);
     response_on(r, vt, mt, ts, vf, a, load)
 }

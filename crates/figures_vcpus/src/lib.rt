@@ -28,8 +28,8 @@ pub fn fill_vcpus(r: PlanRecord, vt: &[u64], mt: &[u64], ts: &[u64], vf: &mut [u
     let o = r.overrun;
     let mut a = 0;
     while a < n {
-        let g = figures_found::ght_of(r, vt, mt, ts, figures_cells::vcpu_cell(r, vt, mt, ts, a, 0));
-        let x = figures_cells::vcpu_cell(r, vt, mt, ts, a, 3) + figures_found::overrun_by(o, g);
+        let g = figures_named::ght_of(r, vt, mt, ts, figures_cells::vcpu_cell(r, vt, mt, ts, a, 0));
+        let x = figures_cells::vcpu_cell(r, vt, mt, ts, a, 3) + figures_named::overrun_by(o, g);
         put_vcpu(vf, a, g, x);
         a += 1;
     }

@@ -12,7 +12,6 @@ use plan::MAX_LOCKS;
 use plan::MAX_M;
 use plan::MAX_N;
 use plan::MAX_PERIOD;
-use plan::MAX_TASKS;
 use plan::MAX_V;
 use plan::Refusal;
 use plan::unless;
@@ -26,26 +25,11 @@ ghost use Rattle.judge_coded.specs.Coded as coded;
 ghost use Rattle.judge_coded.specs.Coded.{item};
 ghost use Rattle.plan.specs.Line.{numsOf};
 
-// A byte as a number.
-fn wide(x: u8) -> u64
-    ensures { λ r. ⌜ r ≡ x ⌝ }
-{
-    x as u64
-}
-
-// Element i; 0 past the end.
-fn at(s: &[u8], i: u64) -> u64
-    ensures { λ r. ⌜ r ≡ getD (now (s .entry)) i 0 ⌝ }
-{
-    let k = i as usize;
-    if k < s.len() { wide(s[k]) } else { 0 }
-}
-
 // Is m a global mutex?
 pub fn is_global(t: Seen, m: u64) -> bool
     ensures { λ r. ⌜ r ≡ eqb (getD (t .owners) m 0) coded.global ⌝ }
 {
-    at(&t.owners, m) == GLOBAL
+    judge_hosts::at(&t.owners, m) == GLOBAL
 }
 
 // May a line of this kind follow a line of phase q?
@@ -113,7 +97,7 @@ fn mutex_fault(t: Seen, m: u64, v: u64, declared: bool) -> Fault
 fn local_fault(t: Seen, m: u64, v: u64) -> Fault
     ensures { λ r. ⌜ r ≡ coded.mutexFault t m v (leb 1 (getD (t .guests) v 0)) ⌝ }
 {
-    mutex_fault(t, m, v, 1 <= at(&t.guests, v))
+    mutex_fault(t, m, v, 1 <= judge_hosts::at(&t.guests, v))
 }
 
 fn open_fault(t: Seen, m: u64, guest: u64) -> Fault
@@ -121,7 +105,8 @@ fn open_fault(t: Seen, m: u64, guest: u64) -> Fault
 {
     let range = ranged(m, MAX_M, guest, MAX_GUEST);
     let order = rises(t.shared, t.sharer, m, guest);
-    let known = (at(&t.owners, m) == GLOBAL) & (at(&t.hosted, guest) == 1);
+    let known = (judge_hosts::at(&t.owners, m) == GLOBAL)
+        & (judge_hosts::at(&t.hosted, guest) == 1);
     unless(
         range,
         Refusal::Range,
@@ -136,7 +121,7 @@ fn open_fault(t: Seen, m: u64, guest: u64) -> Fault
 fn guest_fault(t: Seen, guest: u64) -> Fault
     ensures { λ r. ⌜ r ≡ coded.guestFault t guest ⌝ }
 {
-    let known = at(&t.hosted, guest) == 1;
+    let known = judge_hosts::at(&t.hosted, guest) == 1;
     unless(
         within(guest, 1, MAX_GUEST),
         Refusal::Range,
@@ -148,16 +133,6 @@ fn guest_fault(t: Seen, guest: u64) -> Fault
     )
 }
 
-// A task of VCPU v, by what is declared and how many there are.
-fn host_fault(t: Seen, v: u64) -> Fault
-    ensures { λ r. ⌜ r ≡ coded.hostFault t v ⌝ }
-{
-    let host = at(&t.guests, v);
-    let few = unless(t.tasks < MAX_TASKS, Refusal::TooMany, Fault::Clear);
-    let own = unless((1 <= host) & (host == t.guest), Refusal::Outside, few);
-    unless(1 <= host, Refusal::Missing, own)
-}
-
 fn task_fault(t: Seen, v: u64, n: u64, period: u64) -> Fault
     ensures { λ r. ⌜ r ≡ coded.taskFault t v n period ⌝ }
 {
@@ -166,7 +141,7 @@ fn task_fault(t: Seen, v: u64, n: u64, period: u64) -> Fault
     unless(
         range,
         Refusal::Range,
-        unless(order, Refusal::Order, host_fault(t, v)),
+        unless(order, Refusal::Order, judge_hosts::host_fault(t, v)),
     )
 }
 
@@ -181,14 +156,14 @@ fn reaches(t: Seen, owner: u64, m: u64) -> bool
     ensures { λ r. ⌜ r ≡ coded.reached t owner m ⌝ }
 {
     let near = within(owner, 1, MAX_V) & (owner == t.v);
-    let open = at(&t.opens, slot(m, t.guest));
+    let open = judge_hosts::at(&t.opens, slot(m, t.guest));
     near | ((owner == GLOBAL) & (open == 1))
 }
 
 fn lock_fault(t: Seen, m: u64, ticks: u64) -> Fault
     ensures { λ r. ⌜ r ≡ coded.lockFault t m ticks ⌝ }
 {
-    let owner = at(&t.owners, m);
+    let owner = judge_hosts::at(&t.owners, m);
     let few = unless(t.locks < MAX_LOCKS, Refusal::TooMany, Fault::Clear);
     let own = unless(reaches(t, owner, m), Refusal::Outside, few);
     let known = unless(1 <= owner, Refusal::Missing, own);

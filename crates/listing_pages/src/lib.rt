@@ -3,13 +3,13 @@ use plan_tables::PlanRecord;
 ghost use Prim.Native.Nat.{_<_, _≤_};
 ghost use lib.ListN.{length};
 ghost use Rattle.laws.specs.Sums.{flat};
-ghost use Rattle.plan_tables.specs.Layout.{cell, vcpuRow, lockRow, taskRow, taskWidth};
+ghost use Rattle.plan_tables.specs.Layout.{vcpuRow, taskRow};
 ghost use Rattle.figures.specs.Tabled.{Fit, systemIn};
 ghost use Rattle.listing.specs.Listing.{vcpuLine, waitLines, taskLines, rising, listing};
 ghost use Rattle.text_letters.specs.Wrote.{Wrote};
 ghost use Rattle.listing_order.specs.Ordered.{Ordered};
 ghost use Rattle.answers_told.specs.Read.{VcpuAnswersIn, WaitAnswersIn, TaskAnswersIn, AnswersIn};
-ghost use Rattle.listing_sizes.specs.Texts.{placeText, tasksEnd, vcpusEnd};
+ghost use Rattle.listing_sizes.specs.Texts.{tasksEnd, vcpusEnd};
 ghost use Rattle.plan.specs.Limits.{mostTasks};
 
 // Writes the line of VCPU row a.
@@ -46,29 +46,6 @@ fn put_vcpus(r: PlanRecord, vt: &[u64], mt: &[u64], ts: &[u64], va: &[u64], out:
     at
 }
 
-// Writes the line of place j of task i, nothing where its lock is local.
-fn put_wait(
-    r: PlanRecord,
-    vt: &[u64],
-    mt: &[u64],
-    ts: &[u64],
-    wa: &[u64],
-    i: usize,
-    j: usize,
-    out: &mut [u8],
-) -> usize
-    requires { ⌜ Fit r (now vt) (now mt) (now ts) × WaitAnswersIn r (now vt) (now mt) (now ts) (now wa) × (i < r .tasks) × (j < 8) × (j < cell (now ts) taskWidth i 4) × (length (placeText (systemIn r (now vt) (now mt) (now ts)) (taskRow (now ts) i) (lockRow (now ts) i) j) ≤ length (now out)) ⌝ }
-    ensures { λ k. ⌜ Wrote (placeText (systemIn r (now (vt .entry)) (now (mt .entry)) (now (ts .entry))) (taskRow (now (ts .entry)) i) (lockRow (now (ts .entry)) i) j) (now (out .entry)) (now (out .exit)) k ⌝ }
-{
-    if !listing_sizes::is_wait(r, vt, mt, ts, i, j) {
-        return 0;
-    }
-    let v = figures_cells::task_cell(r, vt, mt, ts, i, 0);
-    let n = figures_cells::task_cell(r, vt, mt, ts, i, 1);
-    let x = answers_told::answer_at(wa, i * 8 + j);
-    listing_lines::wait_line(out, v, n, (j + 1) as u64, x)
-}
-
 // Writes the lines of the waits of task i.
 fn put_waits(
     r: PlanRecord,
@@ -86,7 +63,7 @@ fn put_waits(
     let mut at = 0;
     let mut j = 0;
     while j < n {
-        let k = put_wait(r, vt, mt, ts, wa, i, j, &mut out[at..]);
+        let k = listing_waits::put_wait(r, vt, mt, ts, wa, i, j, &mut out[at..]);
         at += k;
         j += 1;
     }

@@ -8,10 +8,10 @@ use Rattle.plan.specs.declared.Refusal.the-variants.{Range, Foreign}
 use Rattle.plan_tables.specs.declared.PlanRecord.{PlanRecord}
 use Rattle.plan_tables.specs.Layout.{Tables}
 use Rattle.figures.specs.System.{system}
-use Rattle.answers_rows.specs.declared.RowAnswer.the-variants.{NoRow}
-use Rattle.answers_rows.specs.declared.TaskRowAnswer.the-variants.{NoTaskRow}
-use Rattle.answers_rows.specs.declared.FigureAnswer.the-variants.{NoFigure}
-use Rattle.answers_rows.specs.Asked.{vcpuRowOf, waitRowOf, taskRowOf, responseRowOf, vcpuAsked, waitAsked, taskAsked, responseAsked}
+use Rattle.answers_tasks.specs.declared.RowAnswer.the-variants.{NoRow}
+use Rattle.answers_tasks.specs.declared.TaskRowAnswer.the-variants.{NoTaskRow}
+use Rattle.answers_tasks.specs.declared.FigureAnswer.the-variants.{NoFigure}
+use Rattle.answers_tasks.specs.Asked.{vcpuRowOf, waitRowOf, taskRowOf, responseRowOf, vcpuAsked, waitAsked, taskAsked, responseAsked}
 use Rattle.listing.specs.Listing.{listing}
 use Rattle.listing_lines.specs.declared.TextAnswer.the-variants.{Refused}
 use Rattle.listing_lines.specs.Into.{textAnswer, textAfter}
@@ -20,7 +20,10 @@ use Rattle.clock_rules.specs.declared.RunAnswer.the-variants.{NoRun}
 use Rattle.clock_rules.specs.Clock.{timingOf, runOf, isHorizon, runFor}
 use Rattle.records.specs.declared.Task.{Task}
 use Rattle.records.specs.Sheet.{cutTo, tablesOf}
-use Rattle.records_ask.specs.Replies.{Question, IsGiven, VcpuTime, WaitTime, TaskTime, SectionResponse, RunTo, Given, Row, TaskRow, Figure, Run, replyTo}
+use Rattle.records_reply.specs.declared.Question.{Question}
+use Rattle.records_reply.specs.declared.Question.the-variants.{IsGiven, VcpuTime, WaitTime, TaskTime, SectionResponse, RunTo}
+use Rattle.records_reply.specs.declared.Replied.the-variants.{Given, Row, TaskRow, Figure, Run}
+use Rattle.records_reply.specs.Replies.{replyTo}
 use Rattle.records.specs.CutLaws.{cut-told, cut-given}
 
 module _ (vt mt ot : List ℕ) (ks : List Task) (r : PlanRecord) where

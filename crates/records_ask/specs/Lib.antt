@@ -1,2 +1,1 @@
-pub mod Replies
 pub mod FaceLaws

@@ -1,64 +1,17 @@
 // What is asked of tables with tasks as a lent slice of records: the records' numbers are loaded, and the covered functions over numbers answer.
-use answers_rows::FigureAnswer;
-use answers_rows::RowAnswer;
-use answers_rows::TaskRowAnswer;
-use clock_rules::RunAnswer;
 use listing_lines::TextAnswer;
 use plan::MOST_TASKS;
 use plan_tables::PlanRecord;
 use records::Task;
+use records_reply::Question;
+use records_reply::Replied;
 ghost use mathlib.Core.Path.{_≡_};
 ghost use Prim.Native.Nat.{_≤_};
 ghost use lib.ListN.{length, take};
 ghost use Rattle.plan_tables.specs.Layout.{lent};
 ghost use Rattle.listing_asked.specs.Asked.{listingAsked, listingLeft};
 ghost use Rattle.records.specs.Sheet.{tablesOf};
-ghost use Rattle.records_ask.specs.Replies.{replyTo};
-
-// What may be asked of lent tables: the test for 9, how late a VCPU can finish, how long task (v, n) can wait at a lock place, how late it can finish, the response of its global section at a lock place, and the run to horizon h on a clock.
-pub enum Question {
-    IsGiven,
-    VcpuTime { v: u64 },
-    WaitTime { v: u64, n: u64, place: u64 },
-    TaskTime { v: u64, n: u64 },
-    SectionResponse { v: u64, n: u64, place: u64 },
-    RunTo { h: u64 },
-}
-
-// What is replied.
-pub enum Replied {
-    Given(bool),
-    Row(RowAnswer),
-    TaskRow(TaskRowAnswer),
-    Figure(FigureAnswer),
-    Run(RunAnswer),
-}
-
-// The reply, on rows of numbers.
-fn reply_on(r: PlanRecord, vt: &[u64], mt: &[u64], ot: &[u64], ts: &[u64], q: Question) -> Replied
-    ensures { λ a. ⌜ a ≡ replyTo r (lent (now (vt .entry)) (now (mt .entry)) (now (ot .entry)) (now (ts .entry))) q ⌝ }
-{
-    match q {
-        Question::IsGiven => Replied::Given(given_test::is_given(r, vt, mt, ot, ts)),
-        Question::VcpuTime { v } => Replied::Row(answers_rows::vcpu_time(r, vt, mt, ot, ts, v)),
-        Question::WaitTime { v, n, place } => {
-            Replied::Row(answers_rows::wait_time(r, vt, mt, ot, ts, v, n, place))
-        }
-        Question::TaskTime { v, n } => Replied::TaskRow(answers_rows::task_time(
-            r,
-            vt,
-            mt,
-            ot,
-            ts,
-            v,
-            n,
-        )),
-        Question::SectionResponse { v, n, place } => {
-            Replied::Figure(answers_rows::section_response(r, vt, mt, ot, ts, v, n, place))
-        }
-        Question::RunTo { h } => Replied::Run(clock_tables::run_of(r, vt, mt, ot, ts, h)),
-    }
-}
+ghost use Rattle.records_reply.specs.Replies.{replyTo};
 
 // The reply, on the first c numbers of the rows.
 fn reply_in(
@@ -73,7 +26,7 @@ fn reply_in(
     requires { ⌜ c ≤ length (now rows) ⌝ }
     ensures { λ a. ⌜ a ≡ replyTo r (lent (now (vt .entry)) (now (mt .entry)) (now (ot .entry)) (take c (now (rows .entry)))) q ⌝ }
 {
-    reply_on(r, vt, mt, ot, &rows[..c], q)
+    records_reply::reply_on(r, vt, mt, ot, &rows[..c], q)
 }
 
 // Replies to a question about the plan in lent tables.

@@ -124,7 +124,7 @@ fn size_in(found: Found) -> u64
 fn number_if(on: bool, s: &[u8], k: u8) -> u64
     ensures { λ r. ⌜ r ≡ when on (numberAt k (now (s .entry))) ⌝ }
 {
-    if on { text_words::number(s, k) } else { 0 }
+    if on { text_numbers::number(s, k) } else { 0 }
 }
 
 // One of two fields.

@@ -1,4 +1,3 @@
 pub mod Keys
 pub mod KeyLaws
 pub mod KindLaws
-pub mod NumberLaws

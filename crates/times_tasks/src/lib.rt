@@ -49,7 +49,7 @@ fn holds_up(
     requires { ⌜ Fit r (now vt) (now mt) (now ts) × WaitsIn r (now vt) (now mt) (now ts) (now ws) (now fs) × (i < r .tasks) × (h < r .tasks) ⌝ }
     ensures { λ x. ⌜ x ≡ (higherTask (taskRow (now (ts .entry)) i) (taskRow (now (ts .entry)) h) && lacksWait (systemIn r (now (vt .entry)) (now (mt .entry)) (now (ts .entry))) (taskRow (now (ts .entry)) h)) ⌝ }
 {
-    figures_found::is_higher(r, vt, mt, ts, i, h) & lacks(r, vt, mt, ts, ws, fs, h)
+    figures_named::is_higher(r, vt, mt, ts, i, h) & lacks(r, vt, mt, ts, ws, fs, h)
 }
 
 // Does a higher task of task i's VCPU lack a wait?
@@ -117,7 +117,7 @@ fn higher_rows(
     let mut n = 0;
     let mut h = 0;
     while h < count {
-        if !figures_found::is_higher(r, vt, mt, ts, i, h) {
+        if !figures_named::is_higher(r, vt, mt, ts, i, h) {
             h += 1;
             continue;
         }
@@ -143,7 +143,7 @@ fn task_rows(
     requires { ⌜ Fit r (now vt) (now mt) (now ts) × TasksIn r (now vt) (now mt) (now ts) (now tf) × WaitsIn r (now vt) (now mt) (now ts) (now ws) (now fs) × (i < r .tasks) × (240 ≤ length (now rows)) ⌝ }
     ensures { λ n. ⌜ (n ≤ 65) × (rowsIn (now (rows .exit)) n ≡ taskRows (systemIn r (now (vt .entry)) (now (mt .entry)) (now (ts .entry))) (taskRow (now (ts .entry)) i) (vcpuAt (systemIn r (now (vt .entry)) (now (mt .entry)) (now (ts .entry))) (taskRow (now (ts .entry)) i .v))) × Each Sound (rowsIn (now (rows .exit)) n) ⌝ }
 {
-    let a = figures_found::vcpu_of(r, vt, mt, ts, figures_cells::task_cell(r, vt, mt, ts, i, 0));
+    let a = figures_named::vcpu_of(r, vt, mt, ts, figures_cells::task_cell(r, vt, mt, ts, i, 0));
     let budget = figures_cells::vcpu_cell(r, vt, mt, ts, a, 3);
     let period = figures_cells::vcpu_cell(r, vt, mt, ts, a, 4);
     let gap = period - budget;

@@ -5,13 +5,13 @@ use search::Answer;
 ghost use mathlib.Core.Path.{_≡_};
 ghost use mathlib.Core.Bool.{_&&_};
 ghost use mathlib.Core.List.{_++_, map};
-ghost use Prim.Native.Nat.{_+_, _-_, _*_, _<_, _≤_};
+ghost use Prim.Native.Nat.{_+_, _<_, _≤_};
 ghost use lib.Dec.{eqb};
 ghost use lib.ListN.{length};
 ghost use Rattle.laws.specs.Choice.{when};
 ghost use Rattle.laws.specs.Sums.{sum, only};
 ghost use Rattle.laws.specs.Rows.{rows as rowsOf, Is};
-ghost use Rattle.search.specs.Row.{rowsIn, pushed};
+ghost use Rattle.search.specs.Row.{rowsIn};
 ghost use Rattle.plan_tables.specs.Layout.{vcpuRow, taskRow};
 ghost use Rattle.figures.specs.Tabled.{Fit, systemIn};
 ghost use Rattle.figures.specs.Figures.{lowerOn, higherOn};
@@ -30,24 +30,12 @@ fn is_deferrable(policy: Policy) -> bool
     }
 }
 
-// Is VCPU b a lower VCPU on the core of VCPU a?
-fn is_lower_on(r: PlanRecord, vt: &[u64], mt: &[u64], ts: &[u64], a: usize, b: usize) -> bool
-    requires { ⌜ Fit r (now vt) (now mt) (now ts) × (a < r .vcpus) × (b < r .vcpus) ⌝ }
-    ensures { λ x. ⌜ x ≡ lowerOn (vcpuRow (now (vt .entry)) a) (vcpuRow (now (vt .entry)) b) ⌝ }
-{
-    let lower = figures_cells::vcpu_cell(r, vt, mt, ts, b, 0)
-        < figures_cells::vcpu_cell(r, vt, mt, ts, a, 0);
-    lower
-        & (figures_cells::vcpu_cell(r, vt, mt, ts, b, 2)
-            == figures_cells::vcpu_cell(r, vt, mt, ts, a, 2))
-}
-
 // 1 where VCPU b is a lower VCPU on the core of VCPU a, and is v.
 fn lower_one(r: PlanRecord, vt: &[u64], mt: &[u64], ts: &[u64], a: usize, v: u64, b: usize) -> u64
     requires { ⌜ Fit r (now vt) (now mt) (now ts) × (a < r .vcpus) × (b < r .vcpus) ⌝ }
     ensures { λ x. ⌜ Is x (when (lowerOn (vcpuRow (now (vt .entry)) a) (vcpuRow (now (vt .entry)) b) && eqb v (vcpuRow (now (vt .entry)) b .v)) 1) 1 ⌝ }
 {
-    let lower = is_lower_on(r, vt, mt, ts, a, b);
+    let lower = times_rows::is_lower_on(r, vt, mt, ts, a, b);
     if lower & (v == figures_cells::vcpu_cell(r, vt, mt, ts, b, 0)) {
         1
     } else {
@@ -138,7 +126,7 @@ fn blocking_ght(
     requires { ⌜ Fit r (now vt) (now mt) (now ts) × VcpusIn r (now vt) (now mt) (now ts) (now vf) × (a < r .vcpus) × (b < r .vcpus) ⌝ }
     ensures { λ x. ⌜ Is x (blockingGht d (systemIn r (now (vt .entry)) (now (mt .entry)) (now (ts .entry))) (vcpuRow (now (vt .entry)) a) (vcpuRow (now (vt .entry)) b)) 64000000 ⌝ }
 {
-    let lower = is_lower_on(r, vt, mt, ts, a, b);
+    let lower = times_rows::is_lower_on(r, vt, mt, ts, a, b);
     if !d & lower { vf[b * 3] } else { 0 }
 }
 
@@ -210,34 +198,6 @@ fn task_rows(
     n
 }
 
-// The jitter of a VCPU: its gap under D.
-fn jitter_of(d: bool, budget: u64, period: u64) -> u64
-    requires { ⌜ budget ≤ period ⌝ }
-    ensures { λ x. ⌜ x ≡ when d (period - budget) ⌝ }
-{
-    if d { period - budget } else { 0 }
-}
-
-// Writes row n: VCPU b, a higher one.
-fn push_vcpu(
-    r: PlanRecord,
-    vt: &[u64],
-    mt: &[u64],
-    ts: &[u64],
-    vf: &[u64],
-    rows: &mut [u64],
-    d: bool,
-    b: usize,
-    n: usize,
-)
-    requires { ⌜ Fit r (now vt) (now mt) (now ts) × VcpusIn r (now vt) (now mt) (now ts) (now vf) × (d ≡ isDeferrable (r .policy)) × (b < r .vcpus) × (n * 3 + 3 ≤ length (now rows)) ⌝ }
-    ensures { λ out. ⌜ now (rows .exit) ≡ pushed (now (rows .entry)) n (higherRow (systemIn r (now (vt .entry)) (now (mt .entry)) (now (ts .entry))) (vcpuRow (now (vt .entry)) b)) ⌝ }
-{
-    let budget = figures_cells::vcpu_cell(r, vt, mt, ts, b, 3);
-    let period = figures_cells::vcpu_cell(r, vt, mt, ts, b, 4);
-    search::push_row(rows, n, jitter_of(d, budget, period), period, vf[b * 3 + 1]);
-}
-
 // Writes the rows of the higher VCPUs on the core of VCPU a after n rows, and says how many rows there are.
 fn vcpu_rows(
     r: PlanRecord,
@@ -261,7 +221,7 @@ fn vcpu_rows(
             b += 1;
             continue;
         }
-        push_vcpu(r, vt, mt, ts, vf, rows, d, b, e);
+        times_rows::push_vcpu(r, vt, mt, ts, vf, rows, d, b, e);
         e += 1;
         b += 1;
     }

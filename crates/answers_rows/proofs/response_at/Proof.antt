@@ -1,5 +1,5 @@
 -- `response_at` meets its contract.
-use Rattle.answers_rows.specs.Found.{place-within, response-of}
+use Rattle.answers_tasks.specs.Found.{place-within, response-of}
 use borrow.Author.Needs.{needs}
 use native.Mathlib.Omega.{arith}
 use Rattle.answers_rows.proofs.response_at.Statement.{statement}

@@ -1,5 +1,5 @@
 -- `response_in` meets its contract.
-use Rattle.answers_rows.specs.Found.{response-lacking, response-nowhere, response-there}
+use Rattle.answers_tasks.specs.Found.{response-lacking, response-nowhere, response-there}
 use borrow.Author.Needs.{needs}
 use borrow.Author.Tests.{not-false, not-true}
 use mathlib.Core.Path.{_∙_, sym}

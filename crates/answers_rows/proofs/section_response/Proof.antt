@@ -1,6 +1,7 @@
 -- `section_response` meets its contract: 9 first.
 use Rattle.figures_slices.specs.FitLaws.{given-fit, foreign-asked, given-asked}
-use Rattle.answers_rows.specs.Asked.{NoFigure, responseAsked, responseRowOf}
+use Rattle.answers_tasks.specs.declared.FigureAnswer.the-variants.{NoFigure}
+use Rattle.answers_tasks.specs.Asked.{responseAsked, responseRowOf}
 use Rattle.plan.specs.declared.Refusal.the-variants.{Foreign}
 use borrow.Author.Needs.{needs}
 use borrow.Author.Tests.{not-false, not-true}

@@ -1,5 +1,5 @@
 -- `vcpu_in` meets its contract.
-use Rattle.answers_rows.specs.Found.{vcpu-lacking, vcpu-there}
+use Rattle.answers_tasks.specs.Found.{vcpu-lacking, vcpu-there}
 use borrow.Author.Needs.{needs}
 use Rattle.answers_rows.proofs.vcpu_in.Statement.{statement}
 use Rattle.answers_rows.proofs.vcpu_in.Tie as tie

@@ -1,5 +1,5 @@
 -- `wait_answer` meets its contract.
-use Rattle.answers_rows.specs.Found.{lock-global, place-within, wait-of}
+use Rattle.answers_tasks.specs.Found.{lock-global, place-within, wait-of}
 use borrow.Author.Needs.{needs}
 use mathlib.Core.Path.{_∙_}
 use native.Mathlib.Omega.{arith}

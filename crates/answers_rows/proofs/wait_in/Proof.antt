@@ -1,5 +1,5 @@
 -- `wait_in` meets its contract.
-use Rattle.answers_rows.specs.Found.{wait-lacking, wait-nowhere, wait-there}
+use Rattle.answers_tasks.specs.Found.{wait-lacking, wait-nowhere, wait-there}
 use borrow.Author.Needs.{needs}
 use borrow.Author.Tests.{not-false, not-true}
 use mathlib.Core.Path.{_∙_, sym}

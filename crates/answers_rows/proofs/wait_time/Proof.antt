@@ -1,6 +1,7 @@
 -- `wait_time` meets its contract: 9 first.
 use Rattle.figures_slices.specs.FitLaws.{given-fit, foreign-asked, given-asked}
-use Rattle.answers_rows.specs.Asked.{NoRow, waitAsked, waitRowOf}
+use Rattle.answers_tasks.specs.declared.RowAnswer.the-variants.{NoRow}
+use Rattle.answers_tasks.specs.Asked.{waitAsked, waitRowOf}
 use Rattle.plan.specs.declared.Refusal.the-variants.{Foreign}
 use borrow.Author.Needs.{needs}
 use borrow.Author.Tests.{not-false, not-true}

@@ -1,6 +1,6 @@
 use mathlib.Core.Path.{sym, _∙_}
 use Rattle.plan.specs.declared.Refusal.the-variants.{Unknown}
-use Rattle.board_supply.specs.SupplyLaws.{unless-yes, unless-no, known-range, asleep-capped}
+use Rattle.board_reserves.specs.SupplyLaws.{unless-yes, unless-no, known-range, asleep-capped}
 use borrow.Author.Needs.{needs}
 use Rattle.board_supply.proofs.ask_fault.Statement.{statement}
 use Rattle.board_supply.proofs.ask_fault.Tie as tie

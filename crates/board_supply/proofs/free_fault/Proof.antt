@@ -1,6 +1,6 @@
 use mathlib.Core.Path.{sym, _∙_}
 use Rattle.plan.specs.declared.Refusal.the-variants.{Unknown}
-use Rattle.board_supply.specs.SupplyLaws.{unless-yes, unless-no, known-range}
+use Rattle.board_reserves.specs.SupplyLaws.{unless-yes, unless-no, known-range}
 use borrow.Author.Needs.{needs}
 use Rattle.board_supply.proofs.free_fault.Statement.{statement}
 use Rattle.board_supply.proofs.free_fault.Tie as tie

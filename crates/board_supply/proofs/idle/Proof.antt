@@ -1,6 +1,6 @@
 use denote.Ref.{now}
 use borrow.Author.Needs.{needs}
-use Rattle.board_supply.specs.SupplyLaws.{idle-asked, idle-spared}
+use Rattle.board_reserves.specs.SupplyLaws.{idle-asked, idle-spared}
 use Rattle.board_supply.proofs.idle.Statement.{statement}
 use Rattle.board_supply.proofs.idle.Tie as tie
 

@@ -1,5 +1,5 @@
 use mathlib.Core.Path.{_∙_}
-use Rattle.board_supply.specs.SupplyLaws.{mark-stays}
+use Rattle.board_reserves.specs.SupplyLaws.{mark-stays}
 use borrow.Author.Needs.{needs}
 use Rattle.board_supply.proofs.mark_after.Statement.{statement}
 use Rattle.board_supply.proofs.mark_after.Tie as tie

@@ -5,8 +5,8 @@ use lib.Dec.{leb}
 use lib.ListN.{getD}
 use Rattle.plan.specs.declared.Refusal.the-variants.{Unknown}
 use Rattle.board_walks.specs.Walks.{holdsGlobal}
-use Rattle.board_supply.specs.Supplies.{reserve, supplyAt}
-use Rattle.board_supply.specs.SupplyLaws.{unless-yes, unless-no, vcpu-range, fits-left, tick-capped}
+use Rattle.board_reserves.specs.Supplies.{reserve, supplyAt}
+use Rattle.board_reserves.specs.SupplyLaws.{unless-yes, unless-no, vcpu-range, fits-left, tick-capped}
 use borrow.Author.Needs.{needs}
 use Rattle.board_supply.proofs.use_fault.Statement.{statement}
 use Rattle.board_supply.proofs.use_fault.Tie as tie

@@ -2,7 +2,7 @@
 use Prim.Native.Nat.{_-_}
 use borrow.Author.Needs.{needs}
 use Rattle.board_walks.specs.WalkLaws.{Pass, pass-none, pass-more, pass-out, pass-all}
-use Rattle.board_supply.specs.Supplies.{vcpuGoodAt}
+use Rattle.board_reserves.specs.Supplies.{vcpuGoodAt}
 use Rattle.board_supply.proofs.vcpus_good.Statement.{statement}
 use Rattle.board_supply.proofs.vcpus_good.Tie as tie
 

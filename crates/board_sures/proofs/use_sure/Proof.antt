@@ -1,6 +1,6 @@
 use native.Mathlib.Omega.{arith}
 use Rattle.plan.specs.JudgeLaws.{clear-test}
-use Rattle.board_supply.specs.SupplyLaws.{vcpu-range}
+use Rattle.board_reserves.specs.SupplyLaws.{vcpu-range}
 use Rattle.board_rules.specs.LentLaws.{sure-used}
 use borrow.Author.Needs.{needs}
 use Rattle.board_sures.proofs.use_sure.Statement.{statement}

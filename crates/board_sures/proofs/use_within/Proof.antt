@@ -1,7 +1,7 @@
 use mathlib.Core.Path.{ap}
 use lib.ListN.{getD}
 use native.Mathlib.Omega.{arith}
-use Rattle.board_supply.specs.SupplyLaws.{vcpu-range}
+use Rattle.board_reserves.specs.SupplyLaws.{vcpu-range}
 use Rattle.board_rules.specs.LentLaws.{within-told}
 use borrow.Author.Needs.{needs}
 use Rattle.board_sures.proofs.use_within.Statement.{statement}

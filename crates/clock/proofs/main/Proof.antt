@@ -1,4 +1,4 @@
-use borrow.Author.Needs.{needs}
+use mathlib.Core.Path.{refl}
 use Rattle.program.specs.ToldLaws.{handed-bytes}
 use Rattle.clock.proofs.main.Statement.{statement}
 use Rattle.clock.proofs.main.Tie as tie
@@ -31,21 +31,21 @@ pub main-spec : {M : Type 1} → statement M
 main-spec =
     tie.close
     (tie.spec
-    (λ c. search needs)
-    (λ c. search needs)
-    (λ c κs. search needs)
-    (λ c. search needs)
-    (λ c. search needs)
-    (λ c. search needs)
-    (λ c. search needs)
-    (λ c. search needs)
-    (λ c κs. search needs)
-    (λ c. search needs)
-    (λ c. search needs)
-    (λ c. search needs)
+    (λ c. refl {a = 8})
+    (λ c. refl {a = 65537})
+    (λ c κs. tt)
+    (λ c. c .match .keys1)
+    (λ c. c .match .keys2)
+    (λ c. tt)
+    (λ c. refl {a = 29})
+    (λ c. refl {a = 65537})
+    (λ c κs. tt)
+    (λ c. c .match2 .keys1)
+    (λ c. c .match2 .keys2)
+    (λ c. tt)
     array-share-prefix-plan
     slice-aggregate-tell
     array-share-prefix-src
     slice-aggregate-tell-2
-    (λ c κs. search needs)
-    (λ c. search needs))
+    (λ c κs. tt)
+    (λ c. tt))

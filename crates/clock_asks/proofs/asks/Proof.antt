@@ -4,7 +4,7 @@ use native.Mathlib.Omega.{arith}
 use borrow.Author.Tests.{not-true, not-false}
 use Rattle.clock_marks.specs.Marks.{boardOf, doneIn}
 use Rattle.clock_going.specs.Going.{timingBy}
-use Rattle.clock_asks.specs.Asked.{KnownPick}
+use Rattle.clock_takes.specs.Asked.{KnownPick}
 use Rattle.clock_asks.specs.Rest.{Rest, rest-first, rest-spent, rest-none, rest-may, kept-waits, kept-granted}
 use Rattle.clock_asks.proofs.asks.Statement.{statement}
 use Rattle.clock_asks.proofs.asks.Tie as tie

@@ -3,8 +3,8 @@ use mathlib.Core.Path.{subst, _∙_}
 use native.Mathlib.Omega.{arith}
 use borrow.Author.Needs.{needs}
 use Rattle.clock_marks.specs.Changes.{PutIn}
-use Rattle.clock_puts.specs.SizedLaws.{sized-put-held, sized-put-in}
-use Rattle.clock_frees.specs.Freed.{passed-sized}
+use Rattle.clock_supplies.specs.SizedLaws.{sized-put-held, sized-put-in}
+use Rattle.clock_hands.specs.Freed.{passed-sized}
 use Rattle.clock_frees.proofs.after_free.Statement.{statement}
 use Rattle.clock_frees.proofs.after_free.Tie as tie
 

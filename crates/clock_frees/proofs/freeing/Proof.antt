@@ -4,7 +4,7 @@ use borrow.Author.Needs.{needs}
 use Rattle.board_rules.specs.Lent.{boardOf}
 use Rattle.board_rules.specs.View.{factsIn}
 use Rattle.clock_uses.specs.Using.{going-marked-any}
-use Rattle.clock_frees.specs.Freed.{NextIn, free-none, free-clear, free-named, free-got, free-room, free-one}
+use Rattle.clock_hands.specs.Freed.{NextIn, free-none, free-clear, free-named, free-got, free-room, free-one}
 use Rattle.clock_frees.specs.Handing.{free-none-hands, free-hands}
 use Rattle.clock_frees.proofs.freeing.Statement.{statement}
 use Rattle.clock_frees.proofs.freeing.Tie as tie

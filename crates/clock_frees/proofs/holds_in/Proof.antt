@@ -3,7 +3,7 @@ use Prim.Native.Nat.{_<_}
 use mathlib.Core.Path.{_≡_, ap, sym, subst, _∙_}
 use native.Mathlib.Omega.{arith}
 use borrow.Author.Needs.{needs}
-use Rattle.clock_frees.specs.Holding.{globalAmong, holdsIn, among-none, among-in, among-hit, among-less, among-fewer}
+use Rattle.clock_hands.specs.Holding.{globalAmong, holdsIn, among-none, among-in, among-hit, among-less, among-fewer}
 use Rattle.clock_frees.proofs.holds_in.Statement.{statement}
 use Rattle.clock_frees.proofs.holds_in.Tie as tie
 

@@ -1,7 +1,7 @@
 -- `passed` meets its contract.
 use mathlib.Core.Path.{refl, sym, subst}
 use borrow.Author.Needs.{needs}
-use Rattle.clock_frees.specs.Freed.{NextIn, Passed, GotGlobal, handed-global, handed-walked}
+use Rattle.clock_hands.specs.Freed.{NextIn, Passed, GotGlobal, handed-global, handed-walked}
 use Rattle.clock_frees.proofs.passed.Statement.{statement}
 use Rattle.clock_frees.proofs.passed.Tie as tie
 

@@ -1,6 +1,6 @@
 -- `clock_lines::event_line` meets its contract.
 use borrow.Author.Needs.{needs}
-use Rattle.clock_lines.specs.EventLaws.{event-joins}
+use Rattle.clock_words.specs.EventLaws.{event-joins}
 use Rattle.text_letters.specs.WroteLaws.{first-fits, ends, rest-fits, both-fit, both-wrote}
 use Rattle.clock_lines.proofs.event_line.Statement.{statement}
 use Rattle.clock_lines.proofs.event_line.Tie as tie

@@ -7,7 +7,7 @@ use Rattle.laws.specs.BoolLaws.{clash}
 use Rattle.laws_picks.specs.PickLaws.{top-le}
 use Rattle.clock_sets.specs.Sets.{inSet}
 use Rattle.clock_marks.specs.Marks.{heldCell}
-use Rattle.clock_picks.specs.Picking.{rankOf}
+use Rattle.clock_dues.specs.Picking.{rankOf}
 use Rattle.clock_picks.specs.PickedN.{rank-some, rank-by}
 use Rattle.clock_picks.specs.Scans.{Scanned, scan-none, scan-left, scan-took, scan-all}
 use Rattle.clock_picks.proofs.pick_ranked.Statement.{statement}

@@ -1,7 +1,7 @@
 use borrow.Author.Needs.{needs}
 use mathlib.Core.Path.{sym, _∙_}
 use borrow.Author.Tests.{not-false, not-true}
-use Rattle.clock_tables.specs.Begins.{run-foreign}
+use Rattle.clock_begins.specs.Begins.{run-foreign}
 use Rattle.clock_tables.proofs.run_of.Statement.{statement}
 use Rattle.clock_tables.proofs.run_of.Tie as tie
 

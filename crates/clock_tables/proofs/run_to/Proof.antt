@@ -1,7 +1,7 @@
 use borrow.Author.Needs.{needs}
 use mathlib.Core.Path.{refl, sym}
 use borrow.Author.Tests.{not-false, not-true}
-use Rattle.clock_tables.specs.Begins.{horizon-to, run-range, run-told}
+use Rattle.clock_begins.specs.Begins.{horizon-to, run-range, run-told}
 use Rattle.clock_tables.proofs.run_to.Statement.{statement}
 use Rattle.clock_tables.proofs.run_to.Tie as tie
 

@@ -1,6 +1,6 @@
 -- `tops_due` meets its contract.
 use borrow.Author.Needs.{needs}
-use Rattle.clock_nexts.specs.PartLaws.{nexts-tops}
+use Rattle.clock_renews.specs.PartLaws.{nexts-tops}
 use Rattle.clock_misses.specs.DueLaws.{paired-periods}
 use Rattle.clock_tops.specs.WalkLaws.{due-in}
 use Rattle.clock_tops.specs.MadeLaws.{tops-room, tops-quiet, tops-made}

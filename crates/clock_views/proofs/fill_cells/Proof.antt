@@ -1,10 +1,10 @@
 -- `fill_cells` meets its contract: the numbers before this one are written.
 use Prim.Native.Nat.{_-_}
 use Rattle.figures.specs.Tabled.{systemIn}
-use Rattle.clock_views.specs.TimesOf.{timesOf}
-use Rattle.clock_views.specs.TaskRows.{Listed}
-use Rattle.clock_views.specs.CellLaws.{times-length}
-use Rattle.clock_views.specs.FillLaws.{listed-is, listed-more, listed-none}
+use Rattle.clock_cells.specs.TimesOf.{timesOf}
+use Rattle.clock_cells.specs.TaskRows.{Listed}
+use Rattle.clock_cells.specs.CellLaws.{times-length}
+use Rattle.clock_cells.specs.FillLaws.{listed-is, listed-more, listed-none}
 use borrow.Author.Needs.{needs}
 use lib.ListN.{getD}
 use mathlib.Core.Path.{_≡_}

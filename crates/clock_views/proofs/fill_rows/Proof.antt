@@ -1,7 +1,7 @@
 -- `fill_rows` meets its contract: the rows of the seats before this one are written.
 use Prim.Native.Nat.{_-_}
-use Rattle.clock_views.specs.TaskRows.{Listed, SeatRow}
-use Rattle.clock_views.specs.FillLaws.{listed-all, listed-more, listed-none}
+use Rattle.clock_cells.specs.TaskRows.{Listed, SeatRow}
+use Rattle.clock_cells.specs.FillLaws.{listed-all, listed-more, listed-none}
 use borrow.Author.Needs.{needs}
 use Rattle.clock_views.proofs.fill_rows.Statement.{statement}
 use Rattle.clock_views.proofs.fill_rows.Tie as tie

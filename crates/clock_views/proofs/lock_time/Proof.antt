@@ -1,5 +1,5 @@
 -- `lock_time` meets its contract: c says which part it is in, and which seat and lock it is of.
-use Rattle.clock_views.specs.FillLaws.{begin-place, end-place, mutex-place}
+use Rattle.clock_cells.specs.FillLaws.{begin-place, end-place, mutex-place}
 use borrow.Author.Needs.{needs}
 use mathlib.Core.Path.{_∙_}
 use Rattle.clock_views.proofs.lock_time.Statement.{statement}

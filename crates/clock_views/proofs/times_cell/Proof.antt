@@ -1,5 +1,5 @@
 -- `times_cell` meets its contract: k says which part it is in, and which VCPU or seat it is of.
-use Rattle.clock_views.specs.FillLaws.{core-place, lengths-place, lock-place, period-place, refill-place}
+use Rattle.clock_cells.specs.FillLaws.{core-place, lengths-place, lock-place, period-place, refill-place}
 use borrow.Author.Needs.{needs}
 use mathlib.Core.Path.{_∙_}
 use Rattle.clock_views.proofs.times_cell.Statement.{statement}

@@ -6,7 +6,7 @@ use borrow.Author.Needs.{needs}
 use Rattle.board_sures.proofs.use_within.Reads as use-within-reads
 use Rattle.board_seats.proofs.figure.Reads as figure-reads
 use Rattle.clock_lines.proofs.tell.Reads as tell-reads
-use Rattle.clock_picks.proofs.over.Reads as over-reads
+use Rattle.clock_dues.proofs.over.Reads as over-reads
 use Rattle.clock_uses.specs.Making.{made-length}
 use Rattle.clock_uses.specs.Using.{going-marked-any, going-vcpu, use-room, within-result, UsedOne, used-one}
 use Rattle.clock_works.specs.Worked.{work-uses, use-fits, over-fits, free-fits, work-frees, more-fits, work-hands, work-result}

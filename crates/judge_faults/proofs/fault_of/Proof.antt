@@ -1,5 +1,5 @@
 use Rattle.judge_coded.specs.Coded.{item}
-use Rattle.judge_faults.proofs.Laws.{fault-told}
+use Rattle.judge_hosts.proofs.Laws.{fault-told}
 use borrow.Author.Needs.{needs}
 use Rattle.judge_faults.proofs.fault_of.Statement.{statement}
 use Rattle.judge_faults.proofs.fault_of.Tie as tie

@@ -2,7 +2,7 @@ use Rattle.judge_coded.specs.Coded.{guestFault}
 use mathlib.Core.Path.{ap, refl}
 use lib.Dec.{eqb}
 use Rattle.plan.specs.declared.Refusal.the-variants.{Range, Order, Missing}
-use Rattle.judge_faults.proofs.Laws.{test-told}
+use Rattle.judge_hosts.proofs.Laws.{test-told}
 use borrow.Author.Needs.{needs}
 use Rattle.judge_faults.proofs.guest_fault.Statement.{statement}
 use Rattle.judge_faults.proofs.guest_fault.Tie as tie

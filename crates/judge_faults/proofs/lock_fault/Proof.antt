@@ -1,4 +1,4 @@
-use Rattle.judge_faults.proofs.Laws.{lock-told}
+use Rattle.judge_hosts.proofs.Laws.{lock-told}
 use borrow.Author.Needs.{needs}
 use Rattle.judge_faults.proofs.lock_fault.Statement.{statement}
 use Rattle.judge_faults.proofs.lock_fault.Tie as tie

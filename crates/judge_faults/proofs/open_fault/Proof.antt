@@ -3,7 +3,7 @@ use mathlib.Core.Path.{ap₂, refl}
 use mathlib.Core.Bool.{_&&_}
 use lib.Dec.{eqb}
 use Rattle.plan.specs.declared.Refusal.the-variants.{Range, Order, Missing}
-use Rattle.judge_faults.proofs.Laws.{test-told}
+use Rattle.judge_hosts.proofs.Laws.{test-told}
 use borrow.Author.Needs.{needs}
 use Rattle.judge_faults.proofs.open_fault.Statement.{statement}
 use Rattle.judge_faults.proofs.open_fault.Tie as tie

@@ -1,4 +1,4 @@
-use Rattle.judge_faults.proofs.Laws.{reach-told}
+use Rattle.judge_hosts.proofs.Laws.{reach-told}
 use borrow.Author.Needs.{needs}
 use Rattle.judge_faults.proofs.reaches.Statement.{statement}
 use Rattle.judge_faults.proofs.reaches.Tie as tie

@@ -2,7 +2,7 @@ use mathlib.Core.Path.{refl}
 use Rattle.plan.specs.Line.{shape}
 use Rattle.judge_coded.specs.Coded.{ruled}
 use Rattle.plan.specs.Line.{size, numsOf}
-use Rattle.judge_faults.proofs.Laws.{rule-told}
+use Rattle.judge_hosts.proofs.Laws.{rule-told}
 use borrow.Author.Needs.{needs}
 use Rattle.judge_faults.proofs.rule.Statement.{statement}
 use Rattle.judge_faults.proofs.rule.Tie as tie

@@ -1,7 +1,7 @@
 use Rattle.judge_coded.specs.Coded.{runFault}
 use mathlib.Core.Path.{refl}
 use Rattle.plan.specs.declared.Refusal.the-variants.{Range}
-use Rattle.judge_faults.proofs.Laws.{test-told}
+use Rattle.judge_hosts.proofs.Laws.{test-told}
 use borrow.Author.Needs.{needs}
 use Rattle.judge_faults.proofs.run_fault.Statement.{statement}
 use Rattle.judge_faults.proofs.run_fault.Tie as tie

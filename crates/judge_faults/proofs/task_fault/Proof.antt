@@ -2,7 +2,7 @@ use Rattle.judge_coded.specs.Coded.{taskFault}
 use mathlib.Core.Path.{ap₂}
 use mathlib.Core.Bool.{_&&_}
 use Rattle.plan.specs.declared.Refusal.the-variants.{Range, Order}
-use Rattle.judge_faults.proofs.Laws.{test-told}
+use Rattle.judge_hosts.proofs.Laws.{test-told}
 use borrow.Author.Needs.{needs}
 use Rattle.judge_faults.proofs.task_fault.Statement.{statement}
 use Rattle.judge_faults.proofs.task_fault.Tie as tie

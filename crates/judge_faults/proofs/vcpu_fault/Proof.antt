@@ -1,4 +1,4 @@
-use Rattle.judge_faults.proofs.Laws.{vcpu-told}
+use Rattle.judge_hosts.proofs.Laws.{vcpu-told}
 use borrow.Author.Needs.{needs}
 use Rattle.judge_faults.proofs.vcpu_fault.Statement.{statement}
 use Rattle.judge_faults.proofs.vcpu_fault.Tie as tie

@@ -1,7 +1,7 @@
 -- `put_waits` meets its contract: the lines before this one are written.
 use Prim.Native.Nat.{_-_}
-use Rattle.listing_pages.specs.Filled.{Filled}
-use Rattle.listing_pages.specs.FilledLaws.{filled-none, filled-ends, filled-fits, filled-sum, filled-more, filled-all}
+use Rattle.listing_waits.specs.Filled.{Filled}
+use Rattle.listing_waits.specs.FilledLaws.{filled-none, filled-ends, filled-fits, filled-sum, filled-more, filled-all}
 use Rattle.plan_tables.specs.Layout.{lockRow, taskRow}
 use Rattle.figures.specs.Tabled.{systemIn}
 use Rattle.listing_sizes.specs.Texts.{placeText}

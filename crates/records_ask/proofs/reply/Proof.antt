@@ -7,7 +7,9 @@ use types.Run.{load as read}
 use denote.Memory.{mem as inMem}
 use denote.Enum.Laws as EL
 use denote.Struct.Laws as LL
-use Rattle.records_ask.specs.Replies.{Question, Replied, replyTo}
+use Rattle.records_reply.specs.declared.Question.{Question}
+use Rattle.records_reply.specs.declared.Replied.{Replied}
+use Rattle.records_reply.specs.Replies.{replyTo}
 use Rattle.records_ask.specs.FaceLaws.{reply-cut}
 use Rattle.records.specs.declared.Task.{Task}
 use Rattle.records.specs.Sheet.{noRows, sheetRows, cutTo}
@@ -18,10 +20,10 @@ use Rattle.records.proofs.Task as T
 use Rattle.plan_tables.specs.declared.PlanRecord.{PlanRecord}
 use Rattle.plan_tables.proofs.PlanRecord as P
 use Rattle.plan_tables.proofs.PlanRecord.Laws as P′
-use Rattle.records_ask.proofs.Question as Q
-use Rattle.records_ask.proofs.Question.Laws as Q′
-use Rattle.records_ask.proofs.Replied as N
-use Rattle.records_ask.proofs.Replied.Laws as N′
+use Rattle.records_reply.proofs.Question as Q
+use Rattle.records_reply.proofs.Question.Laws as Q′
+use Rattle.records_reply.proofs.Replied as N
+use Rattle.records_reply.proofs.Replied.Laws as N′
 use Rattle.records.proofs.no_rows as none
 use Rattle.records.proofs.no_rows.Symbol as none-def
 use Rattle.records.proofs.no_rows.Symbol.{name as #records·no-rows}

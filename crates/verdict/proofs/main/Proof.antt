@@ -1,5 +1,6 @@
 -- `verdict::main` meets its contract: what is handed on are bytes of the buffers. Assumes nothing.
-use borrow.Author.Needs.{needs}
+use mathlib.Core.Path.{refl}
+use native.Mathlib.Nat.{le-refl}
 use Rattle.program.specs.ToldLaws.{handed-bytes}
 use Rattle.verdict.proofs.main.Statement.{statement}
 use Rattle.verdict.proofs.main.Tie as tie
@@ -20,17 +21,17 @@ pub main-spec : {M : Type 1} → statement M
 main-spec =
     tie.close
     (tie.spec
-    (λ c. search needs)
-    (λ c. search needs)
-    (λ c κs. search needs)
-    (λ c. search needs)
-    (λ c. search needs)
-    (λ c. search needs)
+    (λ c. refl {a = 26})
+    (λ c. refl {a = 65537})
+    (λ c κs. tt)
+    (λ c. c .match .keys1)
+    (λ c. c .match .keys2)
+    (λ c. tt)
     array-share-prefix-src
     slice-aggregate-verdict-in
-    (λ c. search needs)
-    (λ c κs. search needs)
-    (λ c. search needs)
-    (λ c. search needs)
-    (λ c κs. search needs)
-    (λ c. search needs))
+    (λ c. refl {a = 16803})
+    (λ c κs. le-refl 16803)
+    (λ c. c .before .verdict-in .ensures .1 .0)
+    (λ c. c .before .before .verdict-in .ensures .1 .1)
+    (λ c κs. tt)
+    (λ c. tt))

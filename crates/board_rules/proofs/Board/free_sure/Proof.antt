@@ -1,6 +1,6 @@
 use mathlib.Core.Path.{sym, _∙_}
 use Rattle.plan.specs.JudgeLaws.{clear-test}
-use Rattle.board_supply.specs.SupplyLaws.{known-range}
+use Rattle.board_reserves.specs.SupplyLaws.{known-range}
 use Rattle.board_rules.specs.BoardLaws.{free-by}
 use Rattle.board_rules.specs.CompleteLaws.{free-own}
 use Rattle.board_rules.specs.Lent.{boardOf}

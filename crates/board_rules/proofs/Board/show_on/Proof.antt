@@ -1,6 +1,6 @@
 use mathlib.Core.Path.{sym, _∙_}
 use borrow.Author.Tests.{not-true, not-false}
-use Rattle.board_supply.specs.SupplyLaws.{task-range}
+use Rattle.board_reserves.specs.SupplyLaws.{task-range}
 use Rattle.board_rules.specs.BoardLaws.{show-unknown, show-known}
 use borrow.Author.Needs.{needs}
 use Rattle.board_rules.proofs.Board.show_on.Statement.{statement}

@@ -1,6 +1,6 @@
 use mathlib.Core.Path.{sym, _∙_}
 use borrow.Author.Tests.{not-true, not-false}
-use Rattle.board_supply.specs.SupplyLaws.{vcpu-range}
+use Rattle.board_reserves.specs.SupplyLaws.{vcpu-range}
 use Rattle.board_rules.specs.BoardLaws.{top-unknown, top-known}
 use Rattle.board_rules.specs.Lent.{boardOf}
 use borrow.Author.Needs.{needs}

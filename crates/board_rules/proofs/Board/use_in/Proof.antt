@@ -1,6 +1,6 @@
 use mathlib.Core.Path.{sym, _∙_}
 use Rattle.plan.specs.JudgeLaws.{clear-test}
-use Rattle.board_supply.specs.SupplyLaws.{vcpu-range}
+use Rattle.board_reserves.specs.SupplyLaws.{vcpu-range}
 use Rattle.board_rules.specs.BoardLaws.{use-by}
 use Rattle.board_rules.specs.Lent.{boardOf}
 use borrow.Author.Needs.{needs}

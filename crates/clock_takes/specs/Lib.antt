@@ -1,0 +1,4 @@
+pub mod AskCases
+pub mod Asked
+pub mod KeepLaws
+pub mod AskLaws
