@@ -68,6 +68,7 @@ bounds TaskLine ns = bound 1 maxV ∷ bound 1 maxN ∷ bound 1 maxPeriod ∷ []
 bounds RunLine ns = bound 0 maxLength ∷ []
 bounds LockLine ns = bound 1 maxM ∷ bound 1 maxLength ∷ []
 bounds EndLine ns = []
+-- an event's line stands in no plan (`follows`), so nothing more is asked of it
 bounds AskLine ns = []
 bounds FreeLine ns = []
 bounds UseLine ns = []
@@ -79,7 +80,7 @@ abbrev pub inBounds : ℕ → List ℕ → List Bound → List Bool
 inBounds j ns [] = []
 inBounds j ns (b ∷ bs) = within (nth j ns) (b .lo) (b .hi) ∷ inBounds (j + 1) ns bs
 
--- what is asked beside form and range, each of the field that names the thing
+-- what is asked beside form and range, each of the field that names the thing or, at field 0, of the whole line
 unfoldable pub others : Known → Kind → List ℕ → List Own
 others t PlanLine ns = []
 others t PolicyPO ns = []
