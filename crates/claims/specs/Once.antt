@@ -51,7 +51,7 @@ module _ {M : Type 1} (𝓤 : URA M) (H : Heap 𝓤) (A : Atoms 𝓤) (mem : Mem
   pub read-line-once : Once 𝓤 text_scan.read_line.ended (text_scan.read_line.clauses 𝓤 H A mem run)
   read-line-once κs a g h x y = of-one 𝓤 (λ p q i. (once p q i, x .1))
 
-  -- QUESTIONS ABOUT LENT TABLES (given_test, answers_rows, records_ask), and the listing (listing_write, records_ask)
+  -- QUESTIONS ABOUT LENT TABLES (given_test, answers_tasks, answers_rows, records_ask), and the listing (listing_write, records_ask)
   pub is-given-once : Sure 𝓤 given_test.is_given.ended (given_test.is_given.clauses 𝓤 H A mem run)
   is-given-once = (λ κs a. free 𝓤, λ κs a g h x y. of-one 𝓤 (λ p q i. (once p q i, x .1)))
 

@@ -1,4 +1,4 @@
--- Demand 3 (Reported) of what the calls answer (answers_rows/Asked).
+-- Demand 3 (Reported) of what the calls answer (answers_tasks/Asked).
 use Prim.Native.Nat.{ℕ}
 use mathlib.Core.Path.{_≡_, refl, ap, sym, _∙_}
 use mathlib.Core.Bool.{Bool, true, false, false≢true, true≢false}

@@ -1,4 +1,4 @@
-// Event lines in, answer lines out. What they mean stands in specs/Events of `board_rules`.
+// Event lines in, answer lines out. What they mean stands in specs/Events of `board_events`.
 use board_rules::Board;
 use board_rules::BoardAnswer;
 use plan::LF;

@@ -1,4 +1,4 @@
-// How an answer of the board is written as a line, and how long that line is. What it says stands in specs/Events of `board_rules`.
+// How an answer of the board is written as a line, and how long that line is. What it says stands in specs/Events of `board_events`.
 use board_rules::BoardAnswer;
 use board_rules::Next;
 use plan::Refusal;
