@@ -110,10 +110,21 @@ struct Clock<'a> {
     jobs: Vec<Job<'a>>,
     tick: u64,
     seen: &'a mut dyn FnMut(Step),
+    ended: &'a mut dyn FnMut(u64, &Task),
 }
 
 /// Runs an accepted plan from tick 0 to before the horizon, and shows every board event.
 pub fn run(plan: &Plan, horizon: u64, seen: &mut dyn FnMut(Step)) -> Outcome {
+    run_and_ends(plan, horizon, seen, &mut |_, _| {})
+}
+
+/// The same, and shows for every job with a length the tick of its last use, and its task.
+pub fn run_and_ends(
+    plan: &Plan,
+    horizon: u64,
+    seen: &mut dyn FnMut(Step),
+    ended: &mut dyn FnMut(u64, &Task),
+) -> Outcome {
     let jobs = plan
         .tasks_rising()
         .into_iter()
@@ -129,6 +140,7 @@ pub fn run(plan: &Plan, horizon: u64, seen: &mut dyn FnMut(Step)) -> Outcome {
         jobs,
         tick: 0,
         seen,
+        ended,
     };
     while clock.tick < horizon {
         clock.tops();
@@ -270,6 +282,9 @@ impl Clock<'_> {
         if let Some(job) = self.jobs.get_mut(at) {
             job.ran += 1;
             ran = job.ran;
+            if job.has_ended() {
+                (self.ended)(self.tick, job.task);
+            }
         }
         if let (Some(m), true) = (piece.mutex, ran == piece.to) {
             self.event(Event::Free { v, n, m }, false);

@@ -218,11 +218,11 @@ pub fn wait_demand(sections: &[GlobalSection], v: u64, m: u64) -> Demand {
     demand
 }
 
-/// Equations 7 to 9.
-pub fn local_blocking(plan: &Plan, task: &Task) -> u64 {
+/// Equations 7 to 9, with the lower tasks' sections on those local mutexes whose ceiling counts.
+fn blocking(plan: &Plan, task: &Task, counts: impl Fn(u64) -> bool) -> u64 {
     let local = lower_tasks(plan, task.v, task.n)
         .flat_map(|low| low.locks.iter())
-        .filter(|l| plan.is_local_of(l.m, task.v) && plan.ceiling(l.m) > task.n)
+        .filter(|l| plan.is_local_of(l.m, task.v) && counts(plan.ceiling(l.m)))
         .map(|l| l.t)
         .max()
         .unwrap_or(0);
@@ -233,14 +233,27 @@ pub fn local_blocking(plan: &Plan, task: &Task) -> u64 {
     (local + global) * times
 }
 
-/// Equation 6; `waits` gives the sum of a task's remote waits by its (v, n).
+/// Local blocking: a ceiling counts that is at least n, document 02 (iii).
+pub fn local_blocking(plan: &Plan, task: &Task) -> u64 {
+    blocking(plan, task, |ceiling| ceiling >= task.n)
+}
+
+/// Local blocking as equation 7 and document 01 have it: a ceiling counts that is greater than n.
+/// No listing has it; the mended figure is compared with it.
+pub fn former_local_blocking(plan: &Plan, task: &Task) -> u64 {
+    blocking(plan, task, |ceiling| ceiling > task.n)
+}
+
+/// Equation 6; `blocking` is the task's local blocking, and `waits` gives the sum of a task's remote
+/// waits by its (v, n).
 pub fn task_demand(
     plan: &Plan,
     vcpu: &Vcpu,
     task: &Task,
+    blocking: u64,
     waits: &dyn Fn(u64, u64) -> u64,
 ) -> Demand {
-    let own = task.lengths() + local_blocking(plan, task) + waits(task.v, task.n);
+    let own = task.lengths() + blocking + waits(task.v, task.n);
     let mut demand = Demand {
         fixed: u128::from(own),
         steps: Vec::new(),

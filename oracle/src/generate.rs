@@ -5,10 +5,12 @@ mod damage;
 mod happenings;
 mod runs;
 mod shapes;
+mod watched;
 
 pub use chance::Chance;
 pub use happenings::{board_case, BoardCase};
 pub use runs::{clock_case, clock_plan, run_case, ClockCase, RunCase};
+pub use watched::{changed, watched_plan};
 
 use crate::plan::Plan;
 

@@ -1,5 +1,5 @@
 //! An independent reference for the plans, the verdict and the lock board of document 01, and for the
-//! clock and a refusal's field of document 02.
+//! clock, a refusal's field and the ceiling equal to the task of document 02.
 #![forbid(unsafe_code)]
 
 pub mod board;
@@ -15,3 +15,4 @@ pub mod search;
 pub mod swift;
 pub mod tally;
 pub mod verdict;
+pub mod watch;

@@ -164,6 +164,16 @@ impl Plan {
             .unwrap_or(0)
     }
 
+    /// The two letters of the policy line.
+    pub fn policy_letters(&self) -> &'static str {
+        match (self.policy, self.overrun) {
+            (Policy::Periodic, Overrun::With) => "P O",
+            (Policy::Periodic, Overrun::Without) => "P N",
+            (Policy::Deferrable, Overrun::With) => "D O",
+            (Policy::Deferrable, Overrun::Without) => "D N",
+        }
+    }
+
     /// The plan's text; an accepted plan's text is the input it was read from.
     pub fn text(&self) -> Vec<u8> {
         let mut out = String::from("plan\t1\n");

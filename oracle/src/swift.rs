@@ -100,15 +100,58 @@ fn high8(marks: u8) -> usize {
 
 /// Runs an accepted plan from tick 0 to before the horizon, at most a million.
 pub fn run(plan: &Plan, horizon: u64) -> Outcome {
-    Swift::new(plan).run(horizon.min(TICKS) as u32)
+    Swift::new(plan).run(horizon.min(TICKS) as u32, |_, _, _| {})
 }
 
 /// The same, and each VCPU's budget and overrun left at the end, by v - 1.
 pub fn run_and_left(plan: &Plan, horizon: u64) -> (Outcome, [(u64, u64); V]) {
     let mut swift = Swift::new(plan);
-    let outcome = swift.run(horizon.min(TICKS) as u32);
+    let outcome = swift.run(horizon.min(TICKS) as u32, |_, _, _| {});
     let left = swift.seats.map(|s| (u64::from(s.b), u64::from(s.o)));
     (outcome, left)
+}
+
+/// The jobs of a task that ended in a run.
+#[derive(Clone, Copy, PartialEq, Eq, Debug, Default)]
+pub struct Jobs {
+    pub v: u64,
+    pub n: u64,
+    /// How many; those of no length are not counted.
+    pub ended: u64,
+    /// The longest time of one, from its release to the end of the tick of its last use, 0 if none.
+    pub time: u64,
+    /// The release of the first that took so long.
+    pub release: u64,
+}
+
+/// The same, and the jobs of each task, (v, n) rising.
+pub fn run_and_jobs(plan: &Plan, horizon: u64) -> (Outcome, Vec<Jobs>) {
+    let mut swift = Swift::new(plan);
+    let mut jobs: Vec<Jobs> = swift
+        .rows
+        .iter()
+        .take(swift.tasks)
+        .map(|row| Jobs {
+            v: u64::from(row.v) + 1,
+            n: u64::from(row.n) + 1,
+            ..Jobs::default()
+        })
+        .collect();
+    let outcome = swift.run(horizon.min(TICKS) as u32, |s, tick, mut ended| {
+        while ended != 0 {
+            let at = ended.trailing_zeros() as usize & 63;
+            ended &= ended - 1;
+            let release = s.release_at[at] - s.rows[at].period;
+            let time = u64::from(tick + 1 - release);
+            let job = &mut jobs[at];
+            job.ended += 1;
+            if time > job.time {
+                job.time = time;
+                job.release = u64::from(release);
+            }
+        }
+    });
+    (outcome, jobs)
 }
 
 impl Swift {
@@ -212,7 +255,8 @@ impl Swift {
         s
     }
 
-    fn run(&mut self, horizon: u32) -> Outcome {
+    /// `ended` is shown each tick and the jobs that ended in it, as marks.
+    fn run(&mut self, horizon: u32, mut ended: impl FnMut(&Swift, u32, u64)) -> Outcome {
         let mut next_top = 0;
         let mut next_release = 0;
         for tick in 0..horizon {
@@ -231,11 +275,13 @@ impl Swift {
                     }
                 }
             }
+            let live = self.live;
             for core in self.cores {
                 if core != 0 {
                     self.turn(core);
                 }
             }
+            ended(self, tick, live & !self.live);
         }
         Outcome::Ended
     }

@@ -7,7 +7,7 @@ use crate::board::{Event, Reply};
 use crate::clock::Step;
 use crate::figures::{global_sections, wait_demand, wait_start};
 use crate::limits::{INPUT_BYTES, LOCKS};
-use crate::plan::{Overrun, Plan, Policy};
+use crate::plan::Plan;
 use crate::reading::{read, Refusal};
 use crate::verdict::TOO_LONG;
 
@@ -218,13 +218,7 @@ impl Tally {
     }
 
     fn add_accepted(&mut self, plan: &Plan) {
-        let letters = match (plan.policy, plan.overrun) {
-            (Policy::Periodic, Overrun::With) => "P O",
-            (Policy::Periodic, Overrun::Without) => "P N",
-            (Policy::Deferrable, Overrun::With) => "D O",
-            (Policy::Deferrable, Overrun::Without) => "D N",
-        };
-        one_more(&mut self.policies, letters);
+        one_more(&mut self.policies, plan.policy_letters());
         let order: Vec<(u64, u64)> = plan.tasks().map(|t| (t.v, t.n)).collect();
         let rising = order.iter().zip(order.iter().skip(1)).all(|(a, b)| a < b);
         self.interleaved += u64::from(!rising);

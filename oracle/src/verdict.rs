@@ -1,10 +1,11 @@
 //! The rows of a plan's verdict and the listing.
 
 use crate::figures::{
-    global_sections, task_demand, vcpu_demand, vcpu_start, wait_demand, wait_start,
+    former_local_blocking, global_sections, local_blocking, task_demand, vcpu_demand, vcpu_start,
+    wait_demand, wait_start,
 };
 use crate::limits::INPUT_BYTES;
-use crate::plan::Plan;
+use crate::plan::{Plan, Task};
 use crate::reading::{read, Refusal};
 use crate::search::{search, Found};
 
@@ -56,6 +57,15 @@ fn answer(found: Found) -> Answer {
 
 /// Every row of an accepted plan, each kind rising.
 pub fn judge(plan: &Plan) -> Verdict {
+    judge_by(plan, local_blocking)
+}
+
+/// The rows with the former local blocking, for what is compared with it.
+pub fn former_judge(plan: &Plan) -> Verdict {
+    judge_by(plan, former_local_blocking)
+}
+
+fn judge_by(plan: &Plan, blocking: fn(&Plan, &Task) -> u64) -> Verdict {
     let mut vcpus = Vec::new();
     for vcpu in &plan.vcpus {
         let demand = vcpu_demand(plan, vcpu);
@@ -103,7 +113,7 @@ pub fn judge(plan: &Plan) -> Verdict {
         } else if held {
             (Answer::Held, 0)
         } else if let Some(vcpu) = plan.vcpu(task.v) {
-            let demand = task_demand(plan, vcpu, task, &sum);
+            let demand = task_demand(plan, vcpu, task, blocking(plan, task), &sum);
             let found = search(u128::from(task.lengths()), task.period, &demand);
             (answer(found), found.rounds)
         } else {

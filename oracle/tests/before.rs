@@ -1,5 +1,5 @@
 //! Which refusal is given, number and line, is as it was before a refusal had a field: the marks here were
-//! made by the program as it was then.
+//! made by the program as it was then, which was given these cases.
 
 mod common;
 
@@ -47,7 +47,7 @@ fn generated_plans() {
         }
     }
     let then = (
-        6_294_045_497_334_104_851,
+        3_643_722_454_160_158_299,
         11_829_688_889_065_706_985,
         29_721,
     );

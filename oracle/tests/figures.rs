@@ -32,11 +32,21 @@ fn local_blocking_and_ceilings() {
                   task 1 3 100/run 1/lock 1 2/run 0/lock 3 1/run 0/end/";
     let p = plan(source);
     let of = |n| local_blocking(&p, p.task(1, n).unwrap());
-    assert_eq!([of(1), of(2), of(3)], [0, 9, 8]);
+    // Ceilings: 1 is locked by n = 1, 2 and 3, 2 by n = 1 alone, 4 by nobody.
+    // (1, 1): nobody is lower, 0.
+    // (1, 2): below it (1, 1), 5 on mutex 1 with ceiling 3, not the 9 on mutex 2 with ceiling 1;
+    //   and 4 on the global one. No global section of its own: (5 + 4) * 1 = 9.
+    // (1, 3): below it (1, 1) and (1, 2), 5 and 3 on mutex 1, whose ceiling is 3 itself, the longest is 5;
+    //   and 4 on the global one. One global section of its own: (5 + 4) * 2 = 18.
     assert_eq!([1, 2, 4].map(|m| p.ceiling(m)), [3, 1, 0]);
+    assert_eq!([of(1), of(2), of(3)], [0, 9, 18]);
     assert_eq!(ght(&p, 1), 5);
     assert_eq!(overrun(&p, 1), 0);
     assert_eq!(load(&p, 1, 1, 4), 5);
+    // Every tick is the VCPU's, and nobody else locks mutex 3: gap and waits are 0.
+    // (1, 1): 19 of its own, and one job of 5 of (1, 2) and one of 4 of (1, 3): 28, and 28 again.
+    // (1, 2): 5 + 9 and one job of 4 of (1, 3): 18, and 18 again.
+    // (1, 3): 4 + 18 = 22, and 22 again.
     assert_eq!(
         lines(source),
         [
@@ -46,7 +56,7 @@ fn local_blocking_and_ceilings() {
             "task 1 1 fits 28 2",
             "task 1 2 fits 18 2",
             "wait 1 3 2 0 1",
-            "task 1 3 fits 12 2",
+            "task 1 3 fits 22 2",
             "all fits",
         ]
     );
@@ -250,7 +260,8 @@ fn w_is_the_smallest_number() {
                 if t.period > 3000 || matches!(row.answer, Answer::NoWait | Answer::Held) {
                     continue;
                 }
-                let d = task_demand(&p, p.vcpu(t.v).unwrap(), t, &waits);
+                let blocking = local_blocking(&p, t);
+                let d = task_demand(&p, p.vcpu(t.v).unwrap(), t, blocking, &waits);
                 let found = check(u128::from(t.lengths()), t.period, &d);
                 let answer = found.w.map_or(Answer::Late, Answer::Fits);
                 assert_eq!((row.answer, row.rounds), (answer, found.rounds));
@@ -336,11 +347,29 @@ fn plain_wait_demand(p: &Plan, v: u64, m: u64, t: u64) -> u128 {
     u128::from(first) + sum
 }
 
+/// Equations 7 to 9 word by word, a ceiling that is at least n counting.
+fn plain_local_blocking(p: &Plan, task: &Task) -> u64 {
+    let mut longest = 0;
+    let mut globals = 0;
+    for low in p.tasks_of(task.v).filter(|low| low.n < task.n) {
+        globals += longest_global(p, low);
+        for lock in low.locks.iter().filter(|l| !p.is_global(l.m)) {
+            let users = p.tasks().filter(|t| t.lists(lock.m));
+            let ceiling = users.map(|t| t.n).max().unwrap_or(0);
+            if ceiling >= task.n {
+                longest = longest.max(lock.t);
+            }
+        }
+    }
+    let own = task.locks.iter().filter(|l| p.is_global(l.m)).count() as u64;
+    (longest + globals) * (own + 1)
+}
+
 /// Equation 6 word by word.
 fn plain_task_demand(p: &Plan, task: &Task, waits: &dyn Fn(u64, u64) -> u64, w: u64) -> u128 {
     let c = p.vcpu(task.v).unwrap();
     let gap = c.period - c.budget;
-    let mut sum = task.lengths() + local_blocking(p, task) + waits(task.v, task.n);
+    let mut sum = task.lengths() + plain_local_blocking(p, task) + waits(task.v, task.n);
     for h in p.tasks_of(task.v).filter(|h| h.n > task.n) {
         sum += up(w + gap + waits(h.v, h.n), h.period) * h.lengths();
     }
@@ -364,7 +393,8 @@ fn demands_are_the_equations() {
                         let d = wait_demand(&s, task.v, lock.m);
                         assert_eq!(d.at(t), plain_wait_demand(&p, task.v, lock.m, t));
                     }
-                    let d = task_demand(&p, p.vcpu(task.v).unwrap(), task, &waits);
+                    let blocking = local_blocking(&p, task);
+                    let d = task_demand(&p, p.vcpu(task.v).unwrap(), task, blocking, &waits);
                     assert_eq!(d.at(t), plain_task_demand(&p, task, &waits, t));
                 }
             }

@@ -1,7 +1,7 @@
 -- Figures from the paper: equations 1 to 9 and 11 to 16 as document 01 condenses them.
 use Prim.Native.Nat.{ℕ, _+_, _-_, _*_}
 use mathlib.Core.Bool.{Bool, _&&_}
-use lib.Dec.{eqb, ltb}
+use lib.Dec.{eqb, ltb, leb}
 use Rattle.laws.specs.Choice.{when}
 use Rattle.laws.specs.Sums.{up, sum, greatest, any, first}
 use Rattle.plan.specs.declared.Policy.{Policy}
@@ -127,15 +127,15 @@ locksIt m k = any (λ l. eqb (l .m) m) (k .locks)
 unfoldable pub ceiling : System → ℕ → ℕ
 ceiling p m = greatest (λ k. when (locksIt m k) (k .n)) (p .tasks)
 
--- a local section counts for task priority n where its mutex's ceiling is greater than n
+-- "Local blocking must count sections whose ceiling is at least n" (document 02, iii)
 abbrev pub ceilingCounts : ℕ → ℕ → Bool
-ceilingCounts n c = ltb n c
+ceilingCounts n c = leb n c
 
--- the longest local section of task h on a mutex whose ceiling is greater than n
+-- the longest local section of task h on a mutex whose ceiling is at least n
 unfoldable pub longestLocal : System → ℕ → Task → ℕ
 longestLocal p n h = greatest (λ l. when (localTo (p .mutexes) (h .v) (l .m) && ceilingCounts n (ceiling p (l .m))) (l .ticks)) (h .locks)
 
--- Local blocking, eqs. 7 to 9: (longest local section of a lower task of the VCPU on a mutex whose ceiling is greater than n,
+-- Local blocking, eqs. 7 to 9: (longest local section of a lower task of the VCPU on a mutex whose ceiling is at least n,
 -- plus the sum of lower tasks' longest global sections) × (own global sections + 1)
 unfoldable pub localBlocking : System → Task → ℕ
 localBlocking p k =

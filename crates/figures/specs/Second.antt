@@ -218,7 +218,7 @@ pub second-plan :
         ceilings = 2 ∷ 3 ∷ [];
         preemptions = 5 ∷ 1 ∷ 0 ∷ 0 ∷ [];
         loads = 2 ∷ 5 ∷ 4 ∷ 3 ∷ 2 ∷ 1 ∷ 2 ∷ 1 ∷ [];
-        local = 0 ∷ 0 ∷ 9 ∷ 6 ∷ 0 ∷ 0 ∷ [];
+        local = 0 ∷ 0 ∷ 15 ∷ 10 ∷ 0 ∷ 0 ∷ [];
       };
       p-o = record {
         overruns = 5 ∷ 4 ∷ 2 ∷ 1 ∷ [];
@@ -227,9 +227,9 @@ pub second-plan :
         responses = 23 ∷ 26 ∷ 22 ∷ 21 ∷ 20 ∷ 19 ∷ 22 ∷ 28 ∷ [];
         waits = Fits 226 3 ∷ Fits 38 3 ∷ Fits 123 2 ∷ Fits 123 2 ∷ Fits 123 2 ∷ Fits 26 1 ∷ Fits 79 2 ∷ Fits 23 1 ∷ [];
         remote = 264 ∷ 123 ∷ 246 ∷ 26 ∷ 79 ∷ 23 ∷ [];
-        tasks = Searched (Late 2) ∷ Searched (Late 9) ∷ Searched (Late 2) ∷ Searched (Fits 138 6) ∷ Searched (Fits 284 7) ∷ Searched (Fits 296 11) ∷ [];
+        tasks = Searched (Late 2) ∷ Searched (Late 9) ∷ Searched (Late 2) ∷ Searched (Fits 142 6) ∷ Searched (Fits 284 7) ∷ Searched (Fits 296 11) ∷ [];
         waits-at = 248 ∷ 38 ∷ 145 ∷ 145 ∷ 145 ∷ 26 ∷ 79 ∷ 23 ∷ [];
-        tasks-at = 545 ∷ 392 ∷ 508 ∷ 274 ∷ 304 ∷ 323 ∷ [];
+        tasks-at = 545 ∷ 392 ∷ 514 ∷ 278 ∷ 304 ∷ 323 ∷ [];
       };
       p-n = record {
         overruns = 0 ∷ 0 ∷ 0 ∷ 0 ∷ [];
@@ -238,9 +238,9 @@ pub second-plan :
         responses = 23 ∷ 42 ∷ 22 ∷ 21 ∷ 20 ∷ 19 ∷ 22 ∷ 28 ∷ [];
         waits = Fits 226 3 ∷ Fits 38 3 ∷ Fits 123 2 ∷ Fits 123 2 ∷ Fits 123 2 ∷ Fits 42 1 ∷ Fits 79 2 ∷ Fits 23 1 ∷ [];
         remote = 264 ∷ 123 ∷ 246 ∷ 42 ∷ 79 ∷ 23 ∷ [];
-        tasks = Searched (Late 2) ∷ Searched (Late 9) ∷ Searched (Late 2) ∷ Searched (Fits 188 6) ∷ Searched (Fits 284 7) ∷ Searched (Fits 296 11) ∷ [];
+        tasks = Searched (Late 2) ∷ Searched (Late 9) ∷ Searched (Late 2) ∷ Searched (Fits 192 6) ∷ Searched (Fits 284 7) ∷ Searched (Fits 296 11) ∷ [];
         waits-at = 248 ∷ 38 ∷ 145 ∷ 145 ∷ 145 ∷ 42 ∷ 79 ∷ 23 ∷ [];
-        tasks-at = 545 ∷ 392 ∷ 508 ∷ 290 ∷ 304 ∷ 323 ∷ [];
+        tasks-at = 545 ∷ 392 ∷ 514 ∷ 294 ∷ 304 ∷ 323 ∷ [];
       };
       d-o = record {
         overruns = 5 ∷ 4 ∷ 2 ∷ 1 ∷ [];
@@ -249,9 +249,9 @@ pub second-plan :
         responses = 7 ∷ 10 ∷ 5 ∷ 4 ∷ 3 ∷ 2 ∷ 2 ∷ 1 ∷ [];
         waits = Fits 30 3 ∷ Fits 4 3 ∷ Fits 13 2 ∷ Fits 13 2 ∷ Fits 13 2 ∷ Fits 10 1 ∷ Fits 9 2 ∷ Fits 7 1 ∷ [];
         remote = 34 ∷ 13 ∷ 26 ∷ 10 ∷ 9 ∷ 7 ∷ [];
-        tasks = Searched (Fits 235 9) ∷ Searched (Fits 135 6) ∷ Searched (Fits 165 6) ∷ Searched (Fits 88 5) ∷ Searched (Fits 74 4) ∷ Searched (Fits 145 6) ∷ [];
+        tasks = Searched (Fits 235 9) ∷ Searched (Fits 135 6) ∷ Searched (Fits 188 6) ∷ Searched (Fits 92 5) ∷ Searched (Fits 74 4) ∷ Searched (Fits 145 6) ∷ [];
         waits-at = 32 ∷ 4 ∷ 15 ∷ 15 ∷ 15 ∷ 10 ∷ 9 ∷ 7 ∷ [];
-        tasks-at = 315 ∷ 271 ∷ 284 ∷ 258 ∷ 234 ∷ 307 ∷ [];
+        tasks-at = 315 ∷ 271 ∷ 290 ∷ 262 ∷ 234 ∷ 307 ∷ [];
       };
       d-n = record {
         overruns = 0 ∷ 0 ∷ 0 ∷ 0 ∷ [];
@@ -260,14 +260,14 @@ pub second-plan :
         responses = 23 ∷ 42 ∷ 22 ∷ 21 ∷ 20 ∷ 19 ∷ 22 ∷ 28 ∷ [];
         waits = Fits 226 3 ∷ Fits 38 3 ∷ Fits 123 2 ∷ Fits 123 2 ∷ Fits 123 2 ∷ Fits 42 1 ∷ Fits 79 2 ∷ Fits 23 1 ∷ [];
         remote = 264 ∷ 123 ∷ 246 ∷ 42 ∷ 79 ∷ 23 ∷ [];
-        tasks = Searched (Late 2) ∷ Searched (Late 9) ∷ Searched (Late 2) ∷ Searched (Fits 188 6) ∷ Searched (Fits 284 7) ∷ Searched (Fits 296 11) ∷ [];
+        tasks = Searched (Late 2) ∷ Searched (Late 9) ∷ Searched (Late 2) ∷ Searched (Fits 192 6) ∷ Searched (Fits 284 7) ∷ Searched (Fits 296 11) ∷ [];
         waits-at = 248 ∷ 38 ∷ 145 ∷ 145 ∷ 145 ∷ 42 ∷ 79 ∷ 23 ∷ [];
-        tasks-at = 545 ∷ 392 ∷ 508 ∷ 290 ∷ 304 ∷ 323 ∷ [];
+        tasks-at = 545 ∷ 392 ∷ 514 ∷ 294 ∷ 304 ∷ 323 ∷ [];
       };
       third = record {
         loads = 5 ∷ 3 ∷ 1 ∷ 5 ∷ [];
         responses = 39 ∷ 20 ∷ 18 ∷ 154 ∷ [];
-        local = 0 ∷ 6 ∷ 14 ∷ 8 ∷ 0 ∷ [];
+        local = 0 ∷ 6 ∷ 14 ∷ 18 ∷ 0 ∷ [];
         vcpus = Fits 5 2 ∷ Fits 8 2 ∷ [];
         waits = Fits 154 1 ∷ Late 0 ∷ Fits 154 1 ∷ Fits 174 4 ∷ [];
         tasks = Held ∷ Held ∷ NoWait ∷ Searched (Late 4) ∷ Searched (Late 5) ∷ [];

@@ -146,7 +146,7 @@ pub fn ceiling_of(r: PlanRecord, vt: &[u64], mt: &[u64], ts: &[u64], m: u64) -> 
     s
 }
 
-// Is lock j of task i a local section on a mutex whose ceiling is greater than n?
+// Is lock j of task i a local section on a mutex whose ceiling is at least n?
 fn counts_local(
     r: PlanRecord,
     vt: &[u64],
@@ -161,7 +161,7 @@ fn counts_local(
 {
     let v = figures_cells::task_cell(r, vt, mt, ts, i, 0);
     let m = figures_cells::lock_cell(r, vt, mt, ts, i, j, 0);
-    figures_cells::is_local(r, vt, mt, ts, v, m) & (n < ceiling_of(r, vt, mt, ts, m))
+    figures_cells::is_local(r, vt, mt, ts, v, m) & (n <= ceiling_of(r, vt, mt, ts, m))
 }
 
 // The ticks of lock j of task i where it is such a section, else 0.
@@ -176,7 +176,7 @@ fn local_ticks(r: PlanRecord, vt: &[u64], mt: &[u64], ts: &[u64], i: usize, j: u
     }
 }
 
-// The longest local section of task i on a mutex whose ceiling is greater than n.
+// The longest local section of task i on a mutex whose ceiling is at least n.
 fn longest_local(r: PlanRecord, vt: &[u64], mt: &[u64], ts: &[u64], i: usize, n: u64) -> u64
     requires { ⌜ Fit r (now vt) (now mt) (now ts) × (i < r .tasks) ⌝ }
     ensures { λ x. ⌜ Is x (longestLocal (systemIn r (now (vt .entry)) (now (mt .entry)) (now (ts .entry))) n (taskRow (now (ts .entry)) i)) 1000000 ⌝ }
@@ -211,7 +211,7 @@ fn blocks_local(r: PlanRecord, vt: &[u64], mt: &[u64], ts: &[u64], i: usize, h: 
     }
 }
 
-// The longest local section of a lower task of task i's VCPU on a mutex whose ceiling is greater.
+// The longest local section of a lower task of task i's VCPU on a mutex whose ceiling is at least task i's n.
 pub fn greatest_local(r: PlanRecord, vt: &[u64], mt: &[u64], ts: &[u64], i: usize) -> u64
     requires { ⌜ Fit r (now vt) (now mt) (now ts) × (i < r .tasks) ⌝ }
     ensures { λ x. ⌜ Is x (greatestLocal (systemIn r (now (vt .entry)) (now (mt .entry)) (now (ts .entry))) (taskRow (now (ts .entry)) i)) 1000000 ⌝ }

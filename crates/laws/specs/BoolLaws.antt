@@ -1,10 +1,10 @@
 -- Laws of `&&` and `||`, cases of a test, and tests as facts.
-use Prim.Native.Nat.{ℕ, _≤_}
+use Prim.Native.Nat.{ℕ, _≤_, _<_}
 use mathlib.Core.Path.{_≡_, refl, sym, _∙_}
 use mathlib.Core.Bool.{Bool, true, false, _&&_, _||_, or-true, and-false, true≢false, false≢true}
 use mathlib.Core.Logic.{_↔_, _⊎_, inl, inr, ⊎-elim}
-use lib.Dec.{eqb, leb}
-use borrow.Author.Tests.{eqb-true, eqb-false, leb-true, le-leb}
+use lib.Dec.{eqb, ltb, leb}
+use borrow.Author.Tests.{eqb-true, eqb-false, eq-eqb, ltb-true, lt-ltb, leb-true, le-leb}
 
 pub both-left : (a b : Bool) → (a && b) ≡ true → a ≡ true
 both-left true b e = refl
@@ -92,3 +92,9 @@ both-exactly {a} {b} e f = (λ h. (e .0 (both-left a b h), f .0 (both-right a b 
 
 pub leb-exactly : (a b : ℕ) → (leb a b ≡ true) ↔ (a ≤ b)
 leb-exactly a b = (leb-true a b, le-leb a b)
+
+pub ltb-exactly : (a b : ℕ) → (ltb a b ≡ true) ↔ (a < b)
+ltb-exactly a b = (ltb-true a b, lt-ltb a b)
+
+pub eqb-exactly : (a b : ℕ) → (eqb a b ≡ true) ↔ (a ≡ b)
+eqb-exactly a b = (eqb-true a b, eq-eqb a b)

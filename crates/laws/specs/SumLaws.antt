@@ -51,6 +51,13 @@ unfolding when
 when-rises true h = h
 when-rises false h = omega arith
 
+-- where the first test passes, so does the second
+pub when-within : (a b : Bool) (x : ℕ) → (a ≡ true → b ≡ true) → when a x ≤ when b x
+unfolding when
+when-within false b x h = omega arith
+when-within true true x h = omega arith
+when-within true false x h = absurd (false≢true (h refl))
+
 pub when-le : (b : Bool) (x : ℕ) → when b x ≤ x
 unfolding when
 when-le true x = omega arith
@@ -139,6 +146,11 @@ unfolding greatest
 greatest-bound [] b h = omega arith
 greatest-bound (x ∷ xs) b h = max-le (h x) (greatest-bound xs b h)
 
+pub greatest-same-on : {A : Type 0} (f g : A → ℕ) (xs : List A) → Each (λ x. f x ≡ g x) xs → greatest f xs ≡ greatest g xs
+unfolding greatest
+greatest-same-on f g [] h = refl
+greatest-same-on f g (x ∷ xs) h = ap₂ max (h .0) (greatest-same-on f g xs (h .1))
+
 -- a row that passes gives at least n: so does the greatest
 pub greatest-row :
     {A : Type 0} (p : A → Bool) (f : A → ℕ) (n : ℕ) (xs : List A) → ((x : A) → p x ≡ true → n ≤ f x) → any p xs ≡ true → n ≤ greatest f xs
@@ -159,6 +171,12 @@ pub all-append : {A : Type 0} (f : A → Bool) (xs ys : List A) → all f (xs ++
 unfolding all
 all-append f [] ys = refl
 all-append f (x ∷ xs) ys = rw (all-append f xs ys, and-assoc)
+
+-- where no row passes, each fails
+pub none-each : {A : Type 0} (f : A → Bool) (xs : List A) → any f xs ≡ false → Each (λ x. f x ≡ false) xs
+unfolding any
+none-each f [] h = tt
+none-each f (x ∷ xs) h = (neither-left (f x) (any f xs) h, none-each f xs (neither-right (f x) (any f xs) h))
 
 -- a row that passes f, and P holds of it; a test that it passes is passed by some row of xs
 pub record Passing {A : Type 0} (f : A → Bool) (P : A → Type 0) (xs : List A) : Type 0 where
@@ -188,6 +206,11 @@ pub each-all : {A : Type 0} (f : A → Bool) (xs : List A) → Each (λ x. f x �
 unfolding all
 each-all f [] h = refl
 each-all f (x ∷ xs) h = both (f x) (all f xs) (h .0) (each-all f xs (h .1))
+
+pub all-same-on : {A : Type 0} (f g : A → Bool) (xs : List A) → Each (λ x. f x ≡ g x) xs → all f xs ≡ all g xs
+unfolding all
+all-same-on f g [] h = refl
+all-same-on f g (x ∷ xs) h = ap₂ _&&_ (h .0) (all-same-on f g xs (h .1))
 
 pub each-append : {A : Type 0} (P : A → Type 0) (xs ys : List A) → Each P xs → Each P ys → Each P (xs ++ ys)
 each-append P [] ys h k = k
@@ -234,6 +257,11 @@ pub flat-append : {A B : Type 0} (f : A → List B) (xs ys : List A) → flat f 
 unfolding flat
 flat-append f [] ys = refl
 flat-append f (x ∷ xs) ys = rw (flat-append f xs ys, append-assoc)
+
+pub flat-same-on : {A B : Type 0} (f g : A → List B) (xs : List A) → Each (λ x. f x ≡ g x) xs → flat f xs ≡ flat g xs
+unfolding flat
+flat-same-on f g [] h = refl
+flat-same-on f g (x ∷ xs) h = ap₂ _++_ (h .0) (flat-same-on f g xs (h .1))
 
 pub each-flat : {A B : Type 0} (P : B → Type 0) (f : A → List B) (xs : List A) → Each (λ x. Each P (f x)) xs → Each P (flat f xs)
 unfolding flat

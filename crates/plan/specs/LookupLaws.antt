@@ -4,16 +4,12 @@ use mathlib.Core.Path.{_≡_, refl, ap, _∙_}
 use mathlib.Core.List.{List}
 use mathlib.Core.Logic.{_↔_, inl, inr, ⊎-elim}
 use mathlib.Core.Bool.{true, _&&_, true≢false, false≢true}
-use lib.Dec.{eqb}
 use borrow.Author.Tests.{eqb-true, eq-eqb}
-use Rattle.laws.specs.BoolLaws.{both-exactly, either-left, either-right, either-of}
+use Rattle.laws.specs.BoolLaws.{both-exactly, eqb-exactly, either-left, either-right, either-of}
 use Rattle.laws.specs.SumLaws.{any-exactly}
 use Rattle.plan.specs.Plan.{Vcpu, Owner, Global, Local, Mutex, Open}
 use Rattle.plan.specs.Lookup.{hasVcpu, isVcpuOf, hasGuest, isGlobal, isLocalTo, hasMutex, global, localTo, opened, reaches}
 use Rattle.plan.specs.Declares.{Declared, VcpuOf, SomeVcpuOf, MutexDeclared, GlobalMutex, LocalMutex, OpenTo, Reach}
-
-eqb-exactly : (a b : ℕ) → (eqb a b ≡ true) ↔ (a ≡ b)
-eqb-exactly a b = (eqb-true a b, eq-eqb a b)
 
 -- THE VCPUS
 

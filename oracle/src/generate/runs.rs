@@ -115,7 +115,7 @@ pub fn clock_plan(chance: &mut Chance) -> (Plan, u64) {
 }
 
 /// Sizes that favour waits between cores, waits in one VCPU, crowds, or nothing.
-fn shape(chance: &mut Chance) -> Shape {
+pub(super) fn shape(chance: &mut Chance) -> Shape {
     let small = Shape {
         cores: chance.between(1, TOP_CORE + 1),
         vcpu_period: (4, 60),
@@ -171,7 +171,7 @@ fn shape(chance: &mut Chance) -> Shape {
 }
 
 /// Some tasks have no length at all, or none between their sections.
-fn empty_some(chance: &mut Chance, plan: &mut Plan) {
+pub(super) fn empty_some(chance: &mut Chance, plan: &mut Plan) {
     for task in plan.sections.iter_mut().flat_map(|s| s.tasks.iter_mut()) {
         match chance.below(16) {
             0 => {
@@ -200,7 +200,7 @@ fn empty_some(chance: &mut Chance, plan: &mut Plan) {
 }
 
 /// Periods that the lengths of a task may fit in, given its VCPU's share and its other tasks.
-fn pace(chance: &mut Chance, plan: &mut Plan) {
+pub(super) fn pace(chance: &mut Chance, plan: &mut Plan) {
     let ease = chance.between(50, 160);
     let before = plan.clone();
     for task in plan.sections.iter_mut().flat_map(|s| s.tasks.iter_mut()) {

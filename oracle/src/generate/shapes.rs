@@ -174,16 +174,20 @@ fn add_sections(chance: &mut Chance, shape: &Shape, plan: &mut Plan) {
     }
 }
 
-fn task(chance: &mut Chance, shape: &Shape, plan: &Plan, vcpu: &Vcpu, n: u64) -> Task {
-    let within: Vec<u64> = plan
-        .mutexes
+/// The mutexes that tasks of a VCPU may lock.
+pub fn within(plan: &Plan, vcpu: &Vcpu) -> Vec<u64> {
+    plan.mutexes
         .iter()
         .filter(|x| match x.owner {
             Owner::Global => plan.is_open(x.m, vcpu.guest),
             Owner::Local(v) => v == vcpu.v,
         })
         .map(|x| x.m)
-        .collect();
+        .collect()
+}
+
+fn task(chance: &mut Chance, shape: &Shape, plan: &Plan, vcpu: &Vcpu, n: u64) -> Task {
+    let within = within(plan, vcpu);
     let count = if within.is_empty() {
         0
     } else {

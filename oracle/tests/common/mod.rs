@@ -33,6 +33,22 @@ pub fn worked(policy: &str) -> String {
     )
 }
 
+/// Late by a ceiling equal to the task, and missed on the clock at 12.
+pub const CEILING: &str =
+    "plan 1/policy P O/vcpu 1 1 1 1 1/mutex 3 L 1/guest 1/task 1 1 60/run 0/lock 3 3/run 3/\
+     task 1 2 6/run 1/lock 3 3/run 1/end/";
+
+/// It fits, and is missed on the clock at 27.
+pub const EQ11_DN: &str =
+    "plan 1/policy D N/vcpu 1 1 0 1 1/vcpu 2 1 1 1 1/mutex 1 G/open 1 1/guest 1/\
+     task 1 1 27/run 0/lock 1 1/run 0/task 1 2 92/run 0/lock 1 6/run 0/lock 1 6/run 0/lock 1 6/run 0/\
+     task 2 1 11/run 0/lock 1 4/run 0/end/";
+
+/// It fits, has local mutexes alone, and is missed on the clock at 28.
+pub const HANDED_ON: &str =
+    "plan 1/policy P O/vcpu 1 1 0 1 1/mutex 1 L 1/mutex 2 L 1/guest 1/task 1 1 60/run 8/lock 1 5/run 0/\
+     task 1 2 20/run 0/lock 2 5/run 0/task 1 3 7/run 0/lock 1 1/run 0/lock 2 1/run 0/end/";
+
 /// Each word of an event's answer, and each refusal by its number.
 pub const ANSWERS: [&str; 14] = [
     "granted",

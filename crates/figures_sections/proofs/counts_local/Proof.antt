@@ -3,7 +3,7 @@ use Rattle.figures.specs.Figures.{ceiling}
 use Rattle.plan.specs.Lookup.{localTo}
 use Rattle.plan_tables.specs.Layout.{lockRow, taskRow}
 use borrow.Author.Needs.{needs}
-use lib.Dec.{ltb}
+use lib.Dec.{leb}
 use mathlib.Core.Bool.{_&&_}
 use mathlib.Core.Path.{_∙_, ap, ap₂}
 use Rattle.figures_sections.proofs.counts_local.Statement.{statement}
@@ -19,4 +19,4 @@ counts-local-spec =
     (λ c κs. search needs)
     (λ c κs. search needs)
     (λ c. let m = c .before .before .lock-cell .ensures .is in
-    ap₂ _&&_ (c .before .is-local .ensures ∙ ap₂ (localTo _) (c .before .before .before .task-cell .ensures .is) m) (ap (ltb _) (c .ceiling-of .ensures .is ∙ ap (ceiling _) m))))
+    ap₂ _&&_ (c .before .is-local .ensures ∙ ap₂ (localTo _) (c .before .before .before .task-cell .ensures .is) m) (ap (leb _) (c .ceiling-of .ensures .is ∙ ap (ceiling _) m))))

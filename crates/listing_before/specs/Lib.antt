@@ -1,0 +1,5 @@
+pub mod Former
+pub mod NoLater
+pub mod FormerLaws
+pub mod Moves
+pub mod Cases
