@@ -1,4 +1,4 @@
--- Figures from the paper: equations 1 to 9 and 11 to 16 as document 01 condenses them.
+-- Figures from the paper: equations 1 to 9 and 11 to 16 as document 01 condenses them, equation 7 as document 02 (iii) mends it.
 use Prim.Native.Nat.{ℕ, _+_, _-_, _*_}
 use mathlib.Core.Bool.{Bool, _&&_}
 use lib.Dec.{eqb, ltb, leb}

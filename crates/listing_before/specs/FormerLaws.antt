@@ -42,7 +42,7 @@ pub mended-answer : (p : System) (k : Task) → taskAnswerBy ceilingCounts p k �
 unfolding longestLocalBy localBlockingBy taskDemandBy taskAnswerBy longestLocal localBlocking taskDemand taskAnswer
 mended-answer p k = refl
 
--- The former test differs from it where the ceiling is n, and nowhere else
+-- The former test leaves out what the mended one counts exactly where the ceiling is n; it counts nothing else (`former-within`)
 pub differ-exactly : (n c : ℕ) → ((ceilingCounts n c ≡ true) × (formerCounts n c ≡ false)) ↔ (c ≡ n)
 differ-exactly n c = (
   λ e. let h = leb-true n c (e .0) in let g = ltb-false n c (e .1) in omega arith,
