@@ -6,7 +6,7 @@ use std::io::Write;
 use std::path::PathBuf;
 use std::process::{Command, Output, Stdio};
 
-use common::{text, worked};
+use common::{ended, text, worked};
 use oracle::clock::clock_text;
 use oracle::events::board_text;
 use oracle::frames;
@@ -139,12 +139,7 @@ fn cases_and_corpora() {
 
 /// What `compare` prints, and its status.
 fn compared(args: &[&str]) -> (String, Option<i32>) {
-    let out = Command::new(env!("CARGO_BIN_EXE_compare"))
-        .args(args)
-        .output()
-        .expect("the program ends");
-    let text = String::from_utf8_lossy(&out.stdout).into_owned();
-    (text, out.status.code())
+    ended(env!("CARGO_BIN_EXE_compare"), args)
 }
 
 #[test]

@@ -4,9 +4,8 @@ mod common;
 
 use std::collections::BTreeMap;
 use std::path::PathBuf;
-use std::process::Command;
 
-use common::{plan, spaced, text, worked, CEILING, EQ11_DN, HANDED_ON};
+use common::{ended, plan, spaced, text, worked, CEILING, EQ11_DN, HANDED_ON};
 use oracle::clock::{run, run_and_ends, Outcome};
 use oracle::generate::{changed, clock_plan, watched_plan, Chance};
 use oracle::plan::{Plan, Task};
@@ -222,12 +221,7 @@ fn a_climb_goes_up_and_is_the_same_again() {
 
 /// What `watch` prints, and its status.
 fn watched(args: &[&str]) -> (String, Option<i32>) {
-    let out = Command::new(env!("CARGO_BIN_EXE_watch"))
-        .args(args)
-        .output()
-        .expect("the program ends");
-    let text = String::from_utf8_lossy(&out.stdout).into_owned();
-    (text, out.status.code())
+    ended(env!("CARGO_BIN_EXE_watch"), args)
 }
 
 #[test]

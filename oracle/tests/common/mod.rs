@@ -99,3 +99,13 @@ pub fn mark(parts: impl Iterator<Item = Vec<u8>>) -> u64 {
         (h ^ u64::from(b)).wrapping_mul(0x0000_0100_0000_01b3)
     })
 }
+
+/// What a program prints, and its status.
+pub fn ended(program: &str, args: &[&str]) -> (String, Option<i32>) {
+    let out = std::process::Command::new(program)
+        .args(args)
+        .output()
+        .expect("the program ends");
+    let text = String::from_utf8_lossy(&out.stdout).into_owned();
+    (text, out.status.code())
+}
