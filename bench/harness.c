@@ -3,6 +3,8 @@
  *   harness verdict NAME PLAN
  *   harness board NAME PLAN EVENTS
  *   harness run NAME PLAN HORIZON      without a trace: no text comes out
+ *   harness write NAME PLAN            from the plan's tables, made before; these are the bytes in
+ *   harness swift-write NAME PLAN      the same, beside the oracle's writer for speed
  *
  * prints NAME, the bytes in, the bytes out, the nanoseconds of one proved call and of one Rust call, and their ratio.
  * The two sides take turns; a sample is as many calls as take some milliseconds; the best sample counts. Status 1 where
@@ -18,14 +20,24 @@
 int64_t rust_verdict(const uint8_t *, size_t, uint8_t *, size_t);
 int64_t rust_board(const uint8_t *, size_t, const uint8_t *, size_t, uint8_t *, size_t);
 int64_t rust_run(const uint8_t *, size_t, uint64_t, uint64_t *);
+int64_t rust_write(const uint64_t *, size_t, const uint64_t *, size_t, const uint64_t *, size_t, const uint64_t *, size_t,
+                   const uint64_t *, size_t, uint8_t *, size_t);
+int64_t rust_swift_write(const uint64_t *, size_t, const uint64_t *, size_t, const uint64_t *, size_t, const uint64_t *,
+                         size_t, const uint64_t *, size_t, uint8_t *, size_t);
+int64_t rust_table(const uint8_t *, size_t, size_t, uint64_t *, size_t);
 
 /* A run of a million ticks takes as long as a dozen samples of the others. */
 enum { LIMIT = 1 << 20, SAMPLES = 400, RUN_SAMPLES = 100 };
 
+/* The record and the four tables; the tasks take the most numbers, 64 times 29. */
+enum { TABLES = 5, NUMBERS = 2048 };
+
 static uint8_t plan[LIMIT], events[LIMIT], proved_out[RYEFROST_BOARD_BYTES], rust_out[RYEFROST_BOARD_BYTES];
 static size_t plan_size, events_size;
 static uint64_t horizon, proved_missed[RYEFROST_MISSED_SIZE], rust_missed[RYEFROST_MISSED_SIZE];
-static enum { VERDICT, BOARD, RUN } what;
+static uint64_t table[TABLES][NUMBERS];
+static size_t table_size[TABLES];
+static enum { VERDICT, BOARD, RUN, WRITE, SWIFT_WRITE } what;
 
 static size_t read_file(const char *path, uint8_t *to) {
     FILE *f = fopen(path, "rb");
@@ -38,12 +50,31 @@ static size_t read_file(const char *path, uint8_t *to) {
     return n;
 }
 
+/* The tables of the plan, and the bytes they take. */
+static size_t read_tables(const char *name) {
+    size_t bytes = 0;
+    for (size_t i = 0; i < TABLES; i++) {
+        int64_t n = rust_table(plan, plan_size, i, table[i], NUMBERS);
+        if (n < 0) {
+            fprintf(stderr, "harness: %s: the plan gives no tables\n", name);
+            exit(2);
+        }
+        table_size[i] = (size_t)n;
+        bytes += table_size[i] * sizeof table[i][0];
+    }
+    return bytes;
+}
+
 static int64_t proved(void) {
     switch (what) {
     case BOARD:
         return ryefrost_board(plan, plan_size, events, events_size, proved_out, sizeof proved_out);
     case RUN:
         return ryefrost_run(plan, plan_size, horizon, proved_missed, RYEFROST_MISSED_SIZE);
+    case WRITE:
+    case SWIFT_WRITE:
+        return ryefrost_write(table[0], table_size[0], table[1], table_size[1], table[2], table_size[2], table[3],
+                              table_size[3], table[4], table_size[4], proved_out, sizeof proved_out);
     default:
         return ryefrost_verdict(plan, plan_size, proved_out, sizeof proved_out);
     }
@@ -55,6 +86,12 @@ static int64_t rust(void) {
         return rust_board(plan, plan_size, events, events_size, rust_out, sizeof rust_out);
     case RUN:
         return rust_run(plan, plan_size, horizon, rust_missed);
+    case WRITE:
+        return rust_write(table[0], table_size[0], table[1], table_size[1], table[2], table_size[2], table[3],
+                          table_size[3], table[4], table_size[4], rust_out, sizeof rust_out);
+    case SWIFT_WRITE:
+        return rust_swift_write(table[0], table_size[0], table[1], table_size[1], table[2], table_size[2], table[3],
+                                table_size[3], table[4], table_size[4], rust_out, sizeof rust_out);
     default:
         return rust_verdict(plan, plan_size, rust_out, sizeof rust_out);
     }
@@ -76,6 +113,10 @@ static int64_t compared(const char *name) {
     }
     if (a < 0 || a != b || memcmp(proved_out, rust_out, (size_t)a) != 0) {
         fprintf(stderr, "harness: %s: the two texts differ\n", name);
+        exit(1);
+    }
+    if (what >= WRITE && ((size_t)a != plan_size || memcmp(proved_out, plan, plan_size) != 0)) {
+        fprintf(stderr, "harness: %s: the text is not the plan's\n", name);
         exit(1);
     }
     return a;
@@ -106,14 +147,19 @@ static long calls_for(int64_t (*call)(void)) {
 
 int main(int argc, char **argv) {
     const char *word = argc > 1 ? argv[1] : "";
-    what = strcmp(word, "board") == 0 ? BOARD : strcmp(word, "run") == 0 ? RUN : VERDICT;
-    if (argc != (what == VERDICT ? 4 : 5) || (what == VERDICT && strcmp(word, "verdict") != 0)) {
-        fprintf(stderr, "usage: harness verdict NAME PLAN | board NAME PLAN EVENTS | run NAME PLAN HORIZON\n");
+    what = strcmp(word, "board") == 0         ? BOARD
+           : strcmp(word, "run") == 0         ? RUN
+           : strcmp(word, "write") == 0       ? WRITE
+           : strcmp(word, "swift-write") == 0 ? SWIFT_WRITE
+                                              : VERDICT;
+    if (argc != (what == BOARD || what == RUN ? 5 : 4) || (what == VERDICT && strcmp(word, "verdict") != 0)) {
+        fprintf(stderr, "usage: harness verdict NAME PLAN | board NAME PLAN EVENTS | run NAME PLAN HORIZON | write NAME PLAN | swift-write NAME PLAN\n");
         return 2;
     }
     plan_size = read_file(argv[3], plan);
+    size_t in = what >= WRITE ? read_tables(argv[2]) : plan_size;
     if (what == BOARD)
-        events_size = read_file(argv[4], events);
+        in += events_size = read_file(argv[4], events);
     if (what == RUN)
         horizon = strtoull(argv[4], NULL, 10);
 
@@ -132,7 +178,7 @@ int main(int argc, char **argv) {
         best_proved = p < best_proved ? p : best_proved;
         best_rust = r < best_rust ? r : best_rust;
     }
-    printf("%-20s %7zu %7lld %14.0f %14.0f %8.2f\n", argv[2], plan_size + events_size, (long long)out, best_proved,
-           best_rust, best_proved / best_rust);
+    printf("%-20s %7zu %7lld %14.0f %14.0f %8.2f\n", argv[2], in, (long long)out, best_proved, best_rust,
+           best_proved / best_rust);
     return 0;
 }

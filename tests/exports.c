@@ -1,6 +1,7 @@
 /* Calls the proved functions with each size of buffer: calls PLAN LISTING EVENTS ANSWERS MISSING. Status 1 where a call does
  * not return the text's size and write the text with the rest left as it was, or return -8 and leave the whole buffer; or
- * where a run does not end as it should, PLAN in time to any horizon and MISSING with (1, 1) missed at tick 27. */
+ * where a run does not end as it should, PLAN in time to any horizon and MISSING with (1, 1) missed at tick 27. PLAN is
+ * the worked plan, which is written from tables too. */
 #include <stdio.h>
 #include <stdlib.h>
 #include <string.h>
@@ -94,6 +95,60 @@ static int all_runs(void) {
            runs(&large, 0, 2, RYEFROST_ROOM);
 }
 
+/* The worked plan in tables, with a row to spare in each. */
+static uint64_t record[] = {RYEFROST_POLICY_D, RYEFROST_OVERRUN_O, 2, 1, 2, 2, 7};
+static uint64_t vcpus[] = {1, 1, 0, 3, 20, 2, 2, 0, 2, 10, 9, 9, 9, 9, 9}, mutexes[] = {1, 0, 9, 9}, opens[] = {1, 1, 1, 2, 9, 9};
+static uint64_t tasks[3 * RYEFROST_TASK_WIDTH] = {1, 1, 100, 2, 1, 1, 1, 2, [29] = 2, 1, 50, 1, 1, 1, 2, 1, [58] = 9, 9, 9};
+
+static int64_t write_into(size_t numbers, size_t places, uint8_t *out, size_t room) {
+    memset(out, MARK, ROOM);
+    return ryefrost_write(record, numbers, vcpus, sizeof vcpus / sizeof *vcpus, mutexes, sizeof mutexes / sizeof *mutexes, opens,
+                          sizeof opens / sizeof *opens, tasks, places, out, room);
+}
+
+/* Is the plan refused by 9, with room and without, and the buffer left as it was? */
+static int foreign(const char *why, size_t numbers, size_t places) {
+    static const struct bytes none = {.size = 0};
+    uint8_t out[ROOM];
+    for (size_t room = 0; room <= ROOM; room += ROOM / 2) {
+        int64_t r = write_into(numbers, places, out, room);
+        if (r != RYEFROST_FOREIGN || !right(&none, out, ROOM, 0)) {
+            fprintf(stderr, "exports.c: write with %s and a buffer of %zu bytes: %lld\n", why, room, (long long)r);
+            return 0;
+        }
+    }
+    return 1;
+}
+
+/* The same with one number changed, and back again. */
+static int changed(const char *why, uint64_t *at, uint64_t to) {
+    uint64_t was = *at;
+    *at = to;
+    int ok = foreign(why, RYEFROST_RECORD_SIZE, sizeof tasks / sizeof *tasks);
+    *at = was;
+    return ok;
+}
+
+/* Written with every size of buffer up to two bytes more than the plan, then 9, and 9 before 8. */
+static int all_writes(void) {
+    const size_t places = sizeof tasks / sizeof *tasks;
+    uint8_t out[ROOM];
+    for (size_t room = 0; room <= plan.size + 2; room++)
+        if (!right(&plan, out, room, write_into(RYEFROST_RECORD_SIZE, places, out, room))) {
+            fprintf(stderr, "exports.c: write with a buffer of %zu bytes\n", room);
+            return 0;
+        }
+    return foreign("five numbers of a record", 5, places) && foreign("seven numbers of a record", 7, places) &&
+           foreign("no record", 0, places) && foreign("a table cut short", RYEFROST_RECORD_SIZE, 57) &&
+           changed("a policy of 2", record, 2) && changed("an overrun of 2", record + 1, 2) &&
+           changed("no task", record + 5, 0) && changed("a row too many", record + 5, 3) &&
+           changed("more rows than there are", record + 5, 4) && changed("rows that wrap", record + 2, UINT64_MAX) &&
+           changed("a VCPU of another guest", tasks + 29, 1) && changed("a local mutex of nobody", mutexes + 1, 3) &&
+           changed("a lock that is not there", tasks + 8, 1) && changed("nine locks", tasks + 4, 9) &&
+           changed("eight digits", tasks + 2, 10000000) && changed("a budget above its period", vcpus + 3, 21) &&
+           changed("a pair that does not rise", opens + 2, 0);
+}
+
 int main(int argc, char **argv) {
     if (argc != 6)
         return 2;
@@ -108,6 +163,6 @@ int main(int argc, char **argv) {
     large.size = 65537;
     int ok = all_sizes(&plan, NULL, &listing) && all_sizes(&plan, &events, &answers) && all_sizes(&none, NULL, &shape) &&
              all_sizes(&none, &events, &shape) && all_sizes(&plan, &none, &none) && all_sizes(&large, NULL, &room) &&
-             all_sizes(&large, &events, &room) && all_sizes(&plan, &large, &room) && all_runs();
+             all_sizes(&large, &events, &room) && all_sizes(&plan, &large, &room) && all_runs() && all_writes();
     return ok ? 0 : 1;
 }

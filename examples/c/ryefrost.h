@@ -3,7 +3,8 @@
  * The first two write the text that a program prints into `out` and return its size in bytes. With too little room they
  * return -8 and leave `out` as it was. No input is too strange: a refused plan is a text too, `refused`, its number, its
  * line and the field of that line (the word is field 1; 0 where the line is refused whole, and for a size). The third
- * writes no text, and returns how a run ends, or minus the number alone.
+ * writes no text, and returns how a run ends, or minus the number alone. The fourth writes the bytes of a plan that the
+ * caller has in tables.
  * `out` and `missed` share no byte with the inputs. A pointer is never null, even where its size is 0. */
 #ifndef RYEFROST_H
 #define RYEFROST_H
@@ -14,12 +15,29 @@
 /* Sizes of `out` that are always enough. */
 #define RYEFROST_VERDICT_BYTES 16803
 #define RYEFROST_BOARD_BYTES 655360
+#define RYEFROST_WRITE_BYTES 66960
 
 /* The numbers that `missed` is to have places for. */
 #define RYEFROST_MISSED_SIZE 3
 
 /* Too little room in `out` or `missed`, or for `ryefrost_run` a plan above 65,536 bytes. */
 #define RYEFROST_ROOM (-8)
+
+/* Tables that no accepted plan gives. */
+#define RYEFROST_FOREIGN (-9)
+
+/* The record of a plan in tables: six numbers, the policy, the overrun choice, and how many rows each table has. */
+#define RYEFROST_RECORD_SIZE 6
+#define RYEFROST_POLICY_P 0
+#define RYEFROST_POLICY_D 1
+#define RYEFROST_OVERRUN_N 0
+#define RYEFROST_OVERRUN_O 1
+
+/* The numbers in a row of each table. */
+#define RYEFROST_VCPU_WIDTH 5
+#define RYEFROST_MUTEX_WIDTH 2
+#define RYEFROST_OPEN_WIDTH 2
+#define RYEFROST_TASK_WIDTH 29
 
 /* How a run ends. */
 #define RYEFROST_ENDED 0
@@ -41,6 +59,22 @@ int64_t ryefrost_board(const uint8_t *plan, size_t plan_size, const uint8_t *eve
  * number: 8 for a plan above 65,536 bytes or less than three places, else the plan's own, 1 to 7, else 3 for a horizon
  * outside 1 to 1,000,000. Unless it returns 1, `missed` is left as it was, and places after the third always are. */
 int64_t ryefrost_run(const uint8_t *plan, size_t plan_size, uint64_t horizon, uint64_t *missed, size_t missed_size);
+
+/* Writes the bytes of the plan in tables into `out`, and returns their size. The tables hold the plan's lines, row after
+ * row, and the record counts them:
+ *   record   policy overrun vcpus mutexes opens tasks     (the last four: how many rows)
+ *   vcpus    v guest core budget period
+ *   mutexes  m owner                                      (owner: 0 for `G`, v for `L v`)
+ *   opens    m guest
+ *   tasks    v n period first count, then 8 times m ticks after
+ * where `first` is the task's first `run`, `count` its locks, and each lock has its mutex, its ticks and the `run` after
+ * it; the places of locks that a task does not have are 0. Sections are not in the tables: a task is its VCPU's guest's.
+ * Sizes are in numbers, of `out` in bytes; numbers beyond the rows are not looked at. Returns -9 where no accepted plan
+ * gives this record and these rows, then -8 where the bytes do not fit; both leave `out` as it was. Read again, the bytes
+ * give the same record and the same rows. */
+int64_t ryefrost_write(const uint64_t *record, size_t record_size, const uint64_t *vcpus, size_t vcpus_size,
+                       const uint64_t *mutexes, size_t mutexes_size, const uint64_t *opens, size_t opens_size,
+                       const uint64_t *tasks, size_t tasks_size, uint8_t *out, size_t out_size);
 
 #ifdef __cplusplus
 }

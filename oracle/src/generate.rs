@@ -3,12 +3,14 @@
 mod chance;
 mod damage;
 mod happenings;
+mod lent;
 mod runs;
 mod shapes;
 mod watched;
 
 pub use chance::Chance;
 pub use happenings::{board_case, BoardCase};
+pub use lent::{table_case, TableCase, TABLE_KINDS};
 pub use runs::{clock_case, clock_plan, run_case, ClockCase, RunCase};
 pub use watched::{changed, watched_plan};
 
@@ -95,9 +97,13 @@ pub fn kind_of(seed: u64, index: u64) -> &'static str {
     if chance.one_in(OVERSIZE_IN) {
         return "oversize";
     }
-    let total: u64 = KINDS.iter().map(|k| k.1).sum();
-    let mut at = chance.below(total);
-    for (name, weight, _) in KINDS.iter() {
+    weighed(&mut chance, &KINDS)
+}
+
+/// One of these kinds, by weight.
+fn weighed(chance: &mut Chance, kinds: &[(&'static str, u64, &str)]) -> &'static str {
+    let mut at = chance.below(kinds.iter().map(|k| k.1).sum());
+    for (name, weight, _) in kinds {
         if at < *weight {
             return name;
         }

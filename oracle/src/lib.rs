@@ -1,5 +1,5 @@
 //! An independent reference for the plans, the verdict and the lock board of document 01, and for the
-//! clock, a refusal's field and the ceiling equal to the task of document 02.
+//! clock, a refusal's field, the ceiling equal to the task and plans written out of document 02.
 #![forbid(unsafe_code)]
 
 pub mod board;
@@ -13,6 +13,8 @@ pub mod plan;
 pub mod reading;
 pub mod search;
 pub mod swift;
+pub mod swift_write;
 pub mod tally;
 pub mod verdict;
 pub mod watch;
+pub mod write;

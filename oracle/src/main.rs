@@ -8,15 +8,18 @@ use std::process::ExitCode;
 use oracle::clock::clock_text;
 use oracle::events::board_text;
 use oracle::frames;
-use oracle::generate::{board_case, clock_case, plan_case, plan_case_of, KINDS};
+use oracle::generate::{board_case, clock_case, plan_case, plan_case_of, table_case, KINDS};
 use oracle::limits::INPUT_BYTES;
 use oracle::reading::read;
 use oracle::verdict::{refused, verdict_text};
+use oracle::write::{rewrite_text, Call};
 
 const USAGE: &str = "usage:
   oracle verdict                        plan on standard input, listing out
   oracle board PLANFILE                 events on standard input, answers out
   oracle clock PLANFILE                 the horizon's line on standard input, the run out
+  oracle rewrite                        plan on standard input, out again from its tables
+  oracle write                          tables and room on standard input, what is returned and the buffer out
   oracle reading                        plan on standard input, its records or refusal out
   oracle plan                           the kinds of plan cases
   oracle plan SEED INDEX [KIND]         one plan case out
@@ -24,6 +27,7 @@ const USAGE: &str = "usage:
   oracle events SEED INDEX              the events of one board case out
   oracle case SEED INDEX DIR            both, as DIR/plan.tsv and DIR/events.tsv
   oracle clock-case SEED INDEX DIR      one clock case, as DIR/plan.tsv and DIR/horizon.tsv
+  oracle table-case SEED INDEX          one case for `write` out
   oracle corpus SEED COUNT FILE         COUNT plan cases in one file, each: length, LF, bytes
   oracle answers FILE                   their verdicts out, framed alike
   oracle board-corpus SEED COUNT FILE   COUNT board cases, each plan then events
@@ -66,6 +70,10 @@ fn run(args: &[&str]) -> Result<Vec<u8>, String> {
             let plan = std::fs::read(file).unwrap_or_default();
             Ok(clock_text(&plan, &standard_input(Some(INPUT_BYTES))))
         }
+        ["rewrite"] => Ok(rewrite_text(&standard_input(Some(INPUT_BYTES)))),
+        ["write"] => Call::parse(&standard_input(None))
+            .map(|call| call.answer())
+            .ok_or_else(|| "oracle: the input is no call of write\n".to_string()),
         ["reading"] => Ok(reading_text(&standard_input(None))),
         ["plan"] => Ok(kinds()),
         ["plan", seed, index] => Ok(plan_case(count(seed)?, count(index)?)),
@@ -83,6 +91,7 @@ fn run(args: &[&str]) -> Result<Vec<u8>, String> {
             let case = clock_case(count(seed)?, count(index)?);
             write_case(Path::new(dir), case.plan, "horizon.tsv", &case.horizon)
         }
+        ["table-case", seed, index] => Ok(table_case(count(seed)?, count(index)?).call.text()),
         ["corpus", seed, number, file] => {
             let (seed, number) = (count(seed)?, count(number)?);
             let mut out = Vec::new();

@@ -10,6 +10,7 @@ use crate::limits::{INPUT_BYTES, LOCKS};
 use crate::plan::Plan;
 use crate::reading::{read, Refusal};
 use crate::verdict::TOO_LONG;
+use crate::write::{whole_refusal, write, Call};
 
 /// A row of this many rounds counts as long.
 pub const LONG: u64 = 1000;
@@ -44,6 +45,11 @@ pub struct Tally {
     /// The board events of those runs, and of them those of one sort: `waits`, `hand-ons` ..
     pub steps: u64,
     pub deeds: BTreeMap<&'static str, u64>,
+    /// Plans read and written again, and the accepted ones that came back byte for byte.
+    pub rewritten: u64,
+    pub same: u64,
+    /// Tables by their kind and by what came of them: `drawn written`, `cut refused 9` ..
+    pub writes: BTreeMap<String, u64>,
 }
 
 /// What the steps of one run were, as they are seen.
@@ -116,6 +122,9 @@ impl Tally {
         all_of(&mut self.runs, &more.runs);
         self.steps += more.steps;
         all_of(&mut self.deeds, &more.deeds);
+        self.rewritten += more.rewritten;
+        self.same += more.same;
+        all_of(&mut self.writes, &more.writes);
     }
 
     /// A plan and the listing that it gives.
@@ -190,6 +199,27 @@ impl Tally {
         };
         one_more(&mut self.runs, key.to_string());
         self.add_plan(plan);
+    }
+
+    /// A plan and what a program prints that writes it again.
+    pub fn add_rewrite(&mut self, plan: &[u8], printed: &[u8]) {
+        self.rewritten += 1;
+        let accepted = self.add_plan(plan);
+        self.same += u64::from(accepted && printed == plan);
+    }
+
+    /// Tables of a kind and the room for their text; a text that is written counts as a plan.
+    pub fn add_write(&mut self, kind: &str, call: &Call) {
+        match write(&call.tables, call.room) {
+            Ok(text) => {
+                one_more(&mut self.writes, format!("{} written", kind));
+                self.add_plan(&text);
+            }
+            Err(number) => {
+                one_more(&mut self.writes, format!("{} refused {}", kind, number));
+                self.add_refusal(whole_refusal(number));
+            }
+        }
     }
 
     /// Is the plan accepted?
@@ -288,6 +318,12 @@ impl fmt::Display for Tally {
             "  tasks out of the listing's order: {} plans; tasks with {} locks: {}",
             self.interleaved, LOCKS, self.crowded
         )?;
+        if self.rewritten > 0 {
+            return writeln!(f, "  came back byte for byte: {}", self.same);
+        }
+        if !self.writes.is_empty() {
+            return writeln!(f, "  tables: {}", counted(&self.writes));
+        }
         if !self.runs.is_empty() {
             let share = |n: u64| 100.0 * n as f64 / self.steps.max(1) as f64;
             writeln!(f, "  runs: {}", counted(&self.runs))?;

@@ -10,8 +10,9 @@ use common::{ended, text, worked};
 use oracle::clock::clock_text;
 use oracle::events::board_text;
 use oracle::frames;
-use oracle::generate::{board_case, clock_case, plan_case};
+use oracle::generate::{board_case, clock_case, plan_case, table_case};
 use oracle::verdict::verdict_text;
+use oracle::write::rewrite_text;
 
 fn oracle(args: &[&str], input: &[u8]) -> Output {
     let mut child = Command::new(env!("CARGO_BIN_EXE_oracle"))
@@ -93,6 +94,23 @@ fn clock_reads_the_plan_file() {
         assert_eq!(std::fs::read(&name).ok(), case.plan);
         let horizon = std::fs::read(dir.join("horizon.tsv")).ok();
         assert_eq!(horizon, Some(case.horizon));
+    }
+}
+
+#[test]
+fn rewrite_and_write() {
+    let plan = text(&worked("D O"));
+    assert_eq!(printed(&["rewrite"], &plan), plan);
+    assert_eq!(printed(&["rewrite"], b""), b"refused\t1\t1\t0\n");
+    let long = [b'x'; 70_000];
+    assert_eq!(printed(&["rewrite"], &long), b"refused\t8\t0\t0\n");
+    for index in 0..20 {
+        let bytes = plan_case(5, index);
+        assert_eq!(printed(&["rewrite"], &bytes), rewrite_text(&bytes));
+        let call = table_case(5, index).call;
+        let case = printed(&["table-case", "5", &index.to_string()], b"");
+        assert_eq!(case, call.text());
+        assert_eq!(printed(&["write"], &case), call.answer());
     }
 }
 
@@ -180,6 +198,66 @@ fn compare_finds_one_wrong_line_of_a_run() {
 }
 
 #[test]
+fn compare_finds_what_is_written_wrong() {
+    let dir = place("written");
+    let oracle = env!("CARGO_BIN_EXE_oracle");
+    let save = dir.join("save").to_string_lossy().into_owned();
+    let (out, status) = compared(&["write", "1", "60", &save, oracle, "write"]);
+    assert_eq!(status, Some(0), "{}", out);
+    assert!(out.starts_with("60 cases compared, 0 differ\n"), "{}", out);
+    let (out, status) = compared(&["rewrite", "1", "60", &save, oracle, "rewrite"]);
+    assert_eq!(status, Some(0), "{}", out);
+    assert!(out.contains("  plans accepted: 24\n"), "{}", out);
+    assert!(out.contains("  came back byte for byte: 24\n"), "{}", out);
+    assert!(!dir.join("save").exists());
+
+    // Another number, a byte of the text, and the last byte behind the buffer.
+    let numbers = "sed '1s/^-8$/-9/'";
+    let letters = "LC_ALL=C sed 's/^end$/End/'";
+    let behind = "LC_ALL=C head -c -1";
+    for wrong in [numbers, letters, behind] {
+        let wrong = format!("'{}' write | {}", oracle, wrong);
+        let (out, status) = compared(&["write", "1", "60", &save, "sh", "-c", &wrong]);
+        assert_eq!(status, Some(1), "{}: {}", wrong, out);
+    }
+    let wrong = format!("'{}' rewrite | sed 's/^run.0$/run\\t00/'", oracle);
+    let (out, status) = compared(&["rewrite", "1", "60", &save, "sh", "-c", &wrong]);
+    assert_eq!(status, Some(1), "{}", out);
+    assert!(!out.contains("  came back byte for byte: 24\n"), "{}", out);
+}
+
+#[test]
+fn compare_wants_a_stored_plan_back() {
+    let dir = place("again");
+    let oracle = env!("CARGO_BIN_EXE_oracle");
+    let save = dir.join("save").to_string_lossy().into_owned();
+    let cases = dir.join("plans");
+    let listings = cases.join("listings");
+    std::fs::create_dir_all(&listings).expect("a directory");
+    let good = text(&worked("P N"));
+    let bad = text(&worked("P N").replace("open 1 2", "open 1 3"));
+    std::fs::write(cases.join("good.tsv"), &good).expect("written");
+    std::fs::write(cases.join("listed.tsv"), &good).expect("written");
+    std::fs::write(cases.join("bad.tsv"), bad).expect("written");
+    std::fs::write(listings.join("listed.tsv"), verdict_text(&good)).expect("written");
+    let folder = cases.to_string_lossy().into_owned();
+    for (refused, status) in [("refused 5 7 3", 0), ("refused 5 7 2", 1)] {
+        let want = format!("good accepted/listed accepted/bad {}/", refused);
+        std::fs::write(cases.join("want.tsv"), text(&want)).expect("written");
+        let (out, ended) = compared(&["rewrites", &folder, &save, oracle, "rewrite"]);
+        assert_eq!(ended, Some(status), "{}: {}", refused, out);
+        assert!(out.contains("  came back byte for byte: 2\n"), "{}", out);
+    }
+    // A program that gives an accepted plan another letter.
+    let wrong = format!("'{}' rewrite | sed 's/^policy.P/policy\\tD/'", oracle);
+    let want = b"good\taccepted\nlisted\taccepted\nbad\trefused\t5\t7\t3\n";
+    std::fs::write(cases.join("want.tsv"), want).expect("written");
+    let (out, ended) = compared(&["rewrites", &folder, &save, "sh", "-c", &wrong]);
+    assert_eq!(ended, Some(1));
+    assert!(out.contains("3 cases compared, 2 differ\n"), "{}", out);
+}
+
+#[test]
 fn compare_wants_the_field_of_a_refusal() {
     let dir = place("wanted");
     let oracle = env!("CARGO_BIN_EXE_oracle");
@@ -232,6 +310,9 @@ fn wrong_arguments() {
         &["board"],
         &["clock"],
         &["clock-case", "1", "1"],
+        &["rewrite", "1"],
+        &["write"],
+        &["table-case", "1"],
         &["plan", "1"],
         &["plan", "x", "1"],
         &["plan", "1", "1", "no-such-kind"],

@@ -4,5 +4,6 @@ pub mod Reports
 pub mod FromBytes
 pub mod Printed
 pub mod Boards
+pub mod Written
 pub mod Once
 pub mod Pinned

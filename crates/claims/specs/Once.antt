@@ -17,6 +17,7 @@ use Rattle.records_read.proofs as records_read
 use Rattle.answers_tasks.proofs as answers_tasks
 use Rattle.answers_rows.proofs as answers_rows
 use Rattle.listing_write.proofs as listing_write
+use Rattle.write_tables.proofs as write_tables
 use Rattle.records_ask.proofs as records_ask
 use Rattle.board_tables.proofs as board_tables
 use Rattle.records_board.proofs as records_board
@@ -24,6 +25,7 @@ use Rattle.log_answers.proofs as log_answers
 use Rattle.clock_tables.proofs as clock_tables
 use Rattle.desk.proofs as desk
 use Rattle.desk_clock.proofs as desk_clock
+use Rattle.desk_write.proofs as desk_write
 
 module _ {M : Type 1} (𝓤 : URA M) (H : Heap 𝓤) (A : Atoms 𝓤) (mem : Memory → SProp 𝓤) (run : Routine → Fun 𝓤) where
   -- READING (read_plan, records_read, read_lines, text_scan)
@@ -51,7 +53,7 @@ module _ {M : Type 1} (𝓤 : URA M) (H : Heap 𝓤) (A : Atoms 𝓤) (mem : Mem
   pub read-line-once : Once 𝓤 text_scan.read_line.ended (text_scan.read_line.clauses 𝓤 H A mem run)
   read-line-once κs a g h x y = of-one 𝓤 (λ p q i. (once p q i, x .1))
 
-  -- QUESTIONS ABOUT LENT TABLES (given_test, answers_tasks, answers_rows, records_ask), and the listing (listing_write, records_ask)
+  -- QUESTIONS ABOUT LENT TABLES (given_test, answers_tasks, answers_rows, records_ask), and what is written of them (listing_write, write_tables, records_ask)
   pub is-given-once : Sure 𝓤 given_test.is_given.ended (given_test.is_given.clauses 𝓤 H A mem run)
   is-given-once = (λ κs a. free 𝓤, λ κs a g h x y. of-one 𝓤 (λ p q i. (once p q i, x .1)))
 
@@ -73,8 +75,11 @@ module _ {M : Type 1} (𝓤 : URA M) (H : Heap 𝓤) (A : Atoms 𝓤) (mem : Mem
   pub write-listing-once : Sure 𝓤 listing_write.write_listing.ended (listing_write.write_listing.clauses 𝓤 H A mem run)
   write-listing-once = (λ κs a. free 𝓤, λ κs a g h x y. of-two 𝓤 (λ p q i. (once (p .0) (q .0) i, (tt, (tt, (tt, (tt, (tt, (once (p .1) (q .1) i, tt)))))))))
 
-  pub write-sheet-once : Sure 𝓤 records_ask.write_listing.ended (records_ask.write_listing.clauses 𝓤 H A mem run)
-  write-sheet-once = (λ κs a. free 𝓤, λ κs a g h x y. of-two 𝓤 (λ p q i. (once (p .0) (q .0) i, (tt, (tt, (tt, (tt, (tt, (once (p .1) (q .1) i, tt)))))))))
+  pub write-plan-once : Sure 𝓤 write_tables.write_plan.ended (write_tables.write_plan.clauses 𝓤 H A mem run)
+  write-plan-once = (λ κs a. free 𝓤, λ κs a g h x y. of-two 𝓤 (λ p q i. (once (p .0) (q .0) i, (tt, (tt, (tt, (tt, (tt, (once (p .1) (q .1) i, tt)))))))))
+
+  pub write-sheet-once : Sure 𝓤 records_ask.write.ended (records_ask.write.clauses 𝓤 H A mem run)
+  write-sheet-once = (λ κs a. free 𝓤, λ κs a g h x y. of-two 𝓤 (λ p q i. (once (p .0) (q .0) i, (tt, (tt, (tt, (tt, (tt, (tt, (once (p .1) (q .1) i, tt))))))))))
 
   -- THE BOARD (board_tables, records_board): the board handed back is in the outcome; and the answers to events (log_answers)
   pub fresh-once : Sure 𝓤 board_tables.fresh.ended (board_tables.fresh.clauses 𝓤 H A mem run)
@@ -114,9 +119,12 @@ module _ {M : Type 1} (𝓤 : URA M) (H : Heap 𝓤) (A : Atoms 𝓤) (mem : Mem
   pub run-bytes-once : Sure 𝓤 desk_clock.run_bytes.ended (desk_clock.run_bytes.clauses 𝓤 H A mem run)
   run-bytes-once = (λ κs a. free 𝓤, λ κs a g h x y. of-one 𝓤 (λ p q i. (once p q i, x .1)))
 
-  -- THE PROGRAMS' TEXTS (desk), into a lent buffer; of the functions for C: exports/proofs/Once
+  -- THE PROGRAMS' TEXTS (desk, desk_write), into a lent buffer; of the functions for C: exports/proofs/Once, exports_write/proofs/Once
   pub verdict-text-once : Sure 𝓤 desk.verdict_text.ended (desk.verdict_text.clauses 𝓤 H A mem run)
   verdict-text-once = (λ κs a. free 𝓤, λ κs a g h x y. of-two 𝓤 (λ p q i. (once (p .0) (q .0) i, (tt, (once (p .1) (q .1) i, tt)))))
 
   pub board-text-once : Sure 𝓤 desk.board_text.ended (desk.board_text.clauses 𝓤 H A mem run)
   board-text-once = (λ κs a. free 𝓤, λ κs a g h x y. of-two 𝓤 (λ p q i. (once (p .0) (q .0) i, (tt, (tt, (once (p .1) (q .1) i, tt))))))
+
+  pub rewrite-text-once : Sure 𝓤 desk_write.rewrite_text.ended (desk_write.rewrite_text.clauses 𝓤 H A mem run)
+  rewrite-text-once = (λ κs a. free 𝓤, λ κs a g h x y. of-two 𝓤 (λ p q i. (once (p .0) (q .0) i, (tt, (once (p .1) (q .1) i, tt)))))

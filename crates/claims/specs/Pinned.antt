@@ -25,7 +25,9 @@ use Rattle.records_reply.specs.Replies.{replyTo}
 use Rattle.listing.specs.Listing.{verdictText}
 use Rattle.listing_lines.specs.declared.TextAnswer.{TextAnswer}
 use Rattle.listing_lines.specs.Into.{textAnswer, textAfter}
-use Rattle.listing_asked.specs.Asked.{listingAsked, listingLeft}
+use Rattle.listing_asked.specs.Asked.{textAsked, textLeft}
+use Rattle.records_ask.specs.declared.Text.{Text}
+use Rattle.records_ask.specs.Wanted.{wanted}
 use Rattle.board_rules.specs.declared.Board.{Board}
 use Rattle.board_rules.specs.declared.Event.{Event}
 use Rattle.board_rules.specs.declared.Event.the-variants.{Ask, Free, Use, Top, Show}
@@ -36,6 +38,7 @@ use Rattle.board_tables.specs.declared.FreshBoard.{FreshBoard}
 use Rattle.board_tables.specs.Entered.{freshFor, stepFor}
 use Rattle.desk_runs.specs.Ran.{runInto}
 use Rattle.exports_codes.specs.Exported.{exported, runExported, missedLeft}
+use Rattle.exports_write.specs.Numbers.{numbersAsked, numbersLeft}
 use Rattle.text_scan.proofs as text_scan
 use Rattle.given_test.proofs as given_test
 use Rattle.read_lines.proofs as read_lines
@@ -44,6 +47,7 @@ use Rattle.records_read.proofs as records_read
 use Rattle.answers_tasks.proofs as answers_tasks
 use Rattle.answers_rows.proofs as answers_rows
 use Rattle.listing_write.proofs as listing_write
+use Rattle.write_tables.proofs as write_tables
 use Rattle.records_ask.proofs as records_ask
 use Rattle.records_board.proofs as records_board
 use Rattle.board_tables.proofs as board_tables
@@ -51,7 +55,9 @@ use Rattle.log_answers.proofs as log_answers
 use Rattle.clock_tables.proofs as clock_tables
 use Rattle.desk.proofs as desk
 use Rattle.desk_clock.proofs as desk_clock
+use Rattle.desk_write.proofs as desk_write
 use Rattle.exports.proofs as exports
+use Rattle.exports_write.proofs as exports_write
 
 module _ {M : Type 1} (𝓤 : URA M) (H : Heap 𝓤) (A : Atoms 𝓤) (mem : Memory → SProp 𝓤) (run : Routine → Fun 𝓤) where
   -- READING INTO RECORDS
@@ -64,7 +70,7 @@ module _ {M : Type 1} (𝓤 : URA M) (H : Heap 𝓤) (A : Atoms 𝓤) (mem : Mem
   pub read-sheet-stated : records_read.read_plan.spec 𝓤 H A mem run ≡ closing 𝓤 H A records_read.read_plan.ended (records_read.read_plan.clauses 𝓤 H A mem run)
   read-sheet-stated = refl
 
-  -- QUESTIONS AND THE LISTING OVER RECORDS
+  -- QUESTIONS AND TEXTS OVER RECORDS
   pub reply-is :
       (κs : Lfts 4) (r : PlanRecord) (vt mt ot : RefT (List ℕ)) (ks : RefT (List Task)) (q : Question) (z : Replied) (e : AtExit records_ask.reply.ended κs) →
       records_ask.reply.clauses 𝓤 H A mem run κs (r, (vt, (mt, (ot, (ks, (q, tt)))))) .ensures tt z e
@@ -75,13 +81,13 @@ module _ {M : Type 1} (𝓤 : URA M) (H : Heap 𝓤) (A : Atoms 𝓤) (mem : Mem
   reply-stated = refl
 
   pub write-sheet-is :
-      (κs : Lfts 5) (r : PlanRecord) (vt mt ot : RefT (List ℕ)) (ks : RefT (List Task)) (o : RefT (List ℕ)) (z : TextAnswer) (e : AtExit records_ask.write_listing.ended κs) →
-      records_ask.write_listing.clauses 𝓤 H A mem run κs (r, (vt, (mt, (ot, (ks, (o, tt)))))) .ensures tt z e
-      ≡ sep 𝓤 (fact 𝓤 (z ≡ listingAsked r (tablesOf (now vt) (now mt) (now ot) (now ks)) (now o)))
-      (fact 𝓤 (now (e .1 .1 .1 .1 .1 .0) ≡ listingLeft r (tablesOf (now vt) (now mt) (now ot) (now ks)) (now o)))
-  write-sheet-is κs r vt mt ot ks o z e = refl
+      (κs : Lfts 5) (r : PlanRecord) (vt mt ot : RefT (List ℕ)) (ks : RefT (List Task)) (w : Text) (o : RefT (List ℕ)) (z : TextAnswer) (e : AtExit records_ask.write.ended κs) →
+      records_ask.write.clauses 𝓤 H A mem run κs (r, (vt, (mt, (ot, (ks, (w, (o, tt))))))) .ensures tt z e
+      ≡ sep 𝓤 (fact 𝓤 (z ≡ textAsked (wanted w) r (tablesOf (now vt) (now mt) (now ot) (now ks)) (now o)))
+      (fact 𝓤 (now (e .1 .1 .1 .1 .1 .1 .0) ≡ textLeft (wanted w) r (tablesOf (now vt) (now mt) (now ot) (now ks)) (now o)))
+  write-sheet-is κs r vt mt ot ks w o z e = refl
 
-  pub write-sheet-stated : records_ask.write_listing.spec 𝓤 H A mem run ≡ closing 𝓤 H A records_ask.write_listing.ended (records_ask.write_listing.clauses 𝓤 H A mem run)
+  pub write-sheet-stated : records_ask.write.spec 𝓤 H A mem run ≡ closing 𝓤 H A records_ask.write.ended (records_ask.write.clauses 𝓤 H A mem run)
   write-sheet-stated = refl
 
   -- THE BOARD OVER RECORDS
@@ -177,6 +183,16 @@ module _ {M : Type 1} (𝓤 : URA M) (H : Heap 𝓤) (A : Atoms 𝓤) (mem : Mem
   pub ryefrost-run-stated : exports.ryefrost_run.spec 𝓤 H A mem run ≡ closing 𝓤 H A exports.ryefrost_run.ended (exports.ryefrost_run.clauses 𝓤 H A mem run)
   ryefrost-run-stated = refl
 
+  pub ryefrost-write-is :
+      (κs : Lfts 6) (ns vt mt ot ts o : RefT (List ℕ)) (z : ℤ) (e : AtExit exports_write.ryefrost_write.ended κs) →
+      exports_write.ryefrost_write.clauses 𝓤 H A mem run κs (ns, (vt, (mt, (ot, (ts, (o, tt)))))) .ensures tt z e
+      ≡ sep 𝓤 (fact 𝓤 (z ≡ exported (numbersAsked (now ns) (lent (now vt) (now mt) (now ot) (now ts)) (now o))))
+      (fact 𝓤 (now (e .1 .1 .1 .1 .1 .0) ≡ numbersLeft (now ns) (lent (now vt) (now mt) (now ot) (now ts)) (now o)))
+  ryefrost-write-is κs ns vt mt ot ts o z e = refl
+
+  pub ryefrost-write-stated : exports_write.ryefrost_write.spec 𝓤 H A mem run ≡ closing 𝓤 H A exports_write.ryefrost_write.ended (exports_write.ryefrost_write.clauses 𝓤 H A mem run)
+  ryefrost-write-stated = refl
+
   -- THE OTHER FUNCTIONS OF ONCE: their clauses, too, are what their theorems state
   pub read-plan-stated : read_plan.read_plan.spec 𝓤 H A mem run ≡ closing 𝓤 H A read_plan.read_plan.ended (read_plan.read_plan.clauses 𝓤 H A mem run)
   read-plan-stated = refl
@@ -214,6 +230,9 @@ module _ {M : Type 1} (𝓤 : URA M) (H : Heap 𝓤) (A : Atoms 𝓤) (mem : Mem
   pub section-response-stated : answers_rows.section_response.spec 𝓤 H A mem run ≡ closing 𝓤 H A answers_rows.section_response.ended (answers_rows.section_response.clauses 𝓤 H A mem run)
   section-response-stated = refl
 
+  pub write-plan-stated : write_tables.write_plan.spec 𝓤 H A mem run ≡ closing 𝓤 H A write_tables.write_plan.ended (write_tables.write_plan.clauses 𝓤 H A mem run)
+  write-plan-stated = refl
+
   pub write-listing-stated : listing_write.write_listing.spec 𝓤 H A mem run ≡ closing 𝓤 H A listing_write.write_listing.ended (listing_write.write_listing.clauses 𝓤 H A mem run)
   write-listing-stated = refl
 
@@ -237,3 +256,6 @@ module _ {M : Type 1} (𝓤 : URA M) (H : Heap 𝓤) (A : Atoms 𝓤) (mem : Mem
 
   pub board-text-stated : desk.board_text.spec 𝓤 H A mem run ≡ closing 𝓤 H A desk.board_text.ended (desk.board_text.clauses 𝓤 H A mem run)
   board-text-stated = refl
+
+  pub rewrite-text-stated : desk_write.rewrite_text.spec 𝓤 H A mem run ≡ closing 𝓤 H A desk_write.rewrite_text.ended (desk_write.rewrite_text.clauses 𝓤 H A mem run)
+  rewrite-text-stated = refl

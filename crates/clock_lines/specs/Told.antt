@@ -1,34 +1,21 @@
--- A text told into a buffer behind n bytes where `on`, else not at all.
+-- A text told into a buffer behind n bytes where `on`, else not at all, and the place behind it: n itself where nothing is told.
 use Prim.Native.Nat.{ℕ, _+_, _-_, _≤_}
 use mathlib.Core.Path.{_≡_, refl, ap, sym, _∙_}
-use mathlib.Core.List.{List, [], _++_, append-assoc, append-nil}
+use mathlib.Core.List.{List, [], _++_}
 use mathlib.Core.Bool.{Bool, true, false, false≢true}
 use native.Mathlib.Nat.{add-zero}
 use native.Mathlib.Omega.{arith}
-use lib.ListN.{length, take, drop, length-append, length-take, length-drop, take-append-drop, drop-of-length-le}
-use lib.Seq.{take-at, drop-at, drop-drop, length-take-le}
+use lib.ListN.{length, take, drop, length-append}
 use Rattle.laws.specs.Choice.{if_then_else_}
-use Rattle.laws.specs.Steps.{take-rest}
 use Rattle.text_letters.specs.Wrote.{Wrote}
-
--- the buffer after it: its first n bytes, x, and behind these the buffer as it was
-unfoldable pub toldAt : Bool → List ℕ → List ℕ → ℕ → List ℕ
-toldAt on x o n = if on then (take n o ++ x) ++ drop (n + length x) o else o
+use Rattle.text_told.specs.At.{told-both}
+pub use Rattle.text_told.specs.At.{toldAt, RoomAt, told-none, told-off, told-length, room-first, begins-within, left-fits, told-on, told-fits}
 
 -- the place behind it
 unfoldable pub toldTo : Bool → List ℕ → ℕ → ℕ
 toldTo on x n = if on then n + length x else n
 
--- there is room for it
-abbrev pub RoomAt : Bool → List ℕ → List ℕ → ℕ → Type 0
-RoomAt on x o n = on ≡ true → n + length x ≤ length o
-
 -- NOTHING TOLD
-
-pub told-none : (on : Bool) (o : List ℕ) (n : ℕ) → toldAt on [] o n ≡ o
-unfolding toldAt
-told-none true o n = rw (append-nil, add-zero) (take-append-drop n o)
-told-none false o n = refl
 
 pub told-to-none : (on : Bool) (n : ℕ) → toldTo on [] n ≡ n
 unfolding toldTo
@@ -37,20 +24,9 @@ told-to-none false n = refl
 
 -- NOT TOLD
 
-pub told-off : {on : Bool} (x o : List ℕ) (n : ℕ) → on ≡ false → toldAt on x o n ≡ o
-unfolding toldAt
-told-off x o n e = rw e
-
 pub told-to-off : {on : Bool} (x : List ℕ) (n : ℕ) → on ≡ false → toldTo on x n ≡ n
 unfolding toldTo
 told-to-off x n e = rw e
-
--- THE BUFFER KEEPS ITS LENGTH
-
-pub told-length : (on : Bool) (x o : List ℕ) (n : ℕ) → RoomAt on x o n → length (toldAt on x o n) ≡ length o
-unfolding toldAt
-told-length true x o n h = let k = h refl in simp (length-append, length-take, length-drop) (omega arith)
-told-length false x o n h = refl
 
 -- IN TWO PARTS: x, and y behind it
 
@@ -59,42 +35,13 @@ unfolding toldTo
 told-to-two true x y n = omega (arith, length-append x y)
 told-to-two false x y n = refl
 
-pub room-first : (on : Bool) (x y o : List ℕ) (n : ℕ) → RoomAt on (x ++ y) o n → RoomAt on x o n
-room-first on x y o n h e = omega (arith, h e, length-append x y)
-
--- of a buffer with x in it
-module _ (x o : List ℕ) (n : ℕ) (h : n + length x ≤ length o) where
-  begins-long : length (take n o ++ x) ≡ n + length x
-  begins-long = length-append (take n o) x ∙ ap (λ m. m + length x) (length-take-le n o (omega arith))
-
-  begins : take (n + length x) ((take n o ++ x) ++ drop (n + length x) o) ≡ take n o ++ x
-  begins = take-at (take n o ++ x) (drop (n + length x) o) (n + length x) begins-long
-
-  goes-on : (m : ℕ) → drop ((n + length x) + m) ((take n o ++ x) ++ drop (n + length x) o) ≡ drop ((n + length x) + m) o
-  goes-on m =
-      sym (drop-drop m (n + length x) _)
-      ∙ ap (drop m) (drop-at (take n o ++ x) (drop (n + length x) o) (n + length x) begins-long)
-      ∙ drop-drop m (n + length x) o
-
-two-parts :
-    (x y o : List ℕ) (n : ℕ) → n + length (x ++ y) ≤ length o →
-    toldAt true (x ++ y) o n ≡ toldAt true y (toldAt true x o n) (n + length x)
-unfolding toldAt
-two-parts x y o n h =
-    let k : n + length x ≤ length o = omega (arith, length-append x y) in
-    let e : n + length (x ++ y) ≡ (n + length x) + length y = omega (arith, length-append x y) in
-    ap (λ m. (take n o ++ (x ++ y)) ++ drop m o) e
-    ∙ ap (λ l. l ++ drop ((n + length x) + length y) o) (sym (append-assoc (take n o) x y))
-    ∙ sym (ap (λ l. (l ++ y) ++ drop ((n + length x) + length y) ((take n o ++ x) ++ drop (n + length x) o)) (begins x o n k)
-    ∙ ap (λ l. ((take n o ++ x) ++ y) ++ l) (goes-on x o n k (length y)))
-
 to-on : (x : List ℕ) (n : ℕ) → toldTo true x n ≡ n + length x
 unfolding toldTo
 to-on x n = refl
 
 pub told-two :
     (on : Bool) (x y o : List ℕ) (n : ℕ) → RoomAt on (x ++ y) o n → toldAt on (x ++ y) o n ≡ toldAt on y (toldAt on x o n) (toldTo on x n)
-told-two true x y o n h = two-parts x y o n (h refl) ∙ ap (toldAt true y (toldAt true x o n)) (sym (to-on x n))
+told-two true x y o n h = told-both true x y o n h ∙ ap (toldAt true y (toldAt true x o n)) (sym (to-on x n))
 told-two false x y o n h = told-off (x ++ y) o n refl ∙ sym (told-off y (toldAt false x o n) (toldTo false x n) refl ∙ told-off x o n refl)
 
 pub room-rest : (on : Bool) (x y o : List ℕ) (n : ℕ) → RoomAt on (x ++ y) o n → RoomAt on y (toldAt on x o n) (toldTo on x n)
@@ -103,25 +50,6 @@ room-rest true x y o n h e =
 room-rest false x y o n h e = absurd (false≢true e)
 
 -- WRITTEN: x in what is left behind the first n bytes
-
-module _ {on : Bool} (x o : List ℕ) (n : ℕ) (e : on ≡ true) (h : RoomAt on x o n) where
-  pub begins-within : n ≤ length o
-  begins-within = omega (arith, h e)
-
-  pub left-fits : length x ≤ length (take (length o - n) (drop n o))
-  left-fits = rw (take-rest n o, length-drop n o) (omega (arith, h e))
-
-  module _ {c : List ℕ} {m : ℕ} (w : Wrote x (take (length o - n) (drop n o)) c m) where
-    pub told-on : take n o ++ (c ++ drop (length o - n) (drop n o)) ≡ toldAt on x o n
-    unfolding toldAt
-    told-on =
-        let q : c ≡ x ++ drop (n + length x) o = w .bytes ∙ rw (take-rest n o, drop-drop) in
-        let r : drop (length o - n) (drop n o) ≡ [] = drop-of-length-le (drop n o) {i = length o - n} (rw length-drop (omega arith)) in
-        rw (e, r, append-nil, q, append-assoc)
-
-    pub told-to-on : n + m ≡ toldTo on x n
-    unfolding toldTo
-    told-to-on = rw e (ap (λ k. n + k) (w .count))
-
-    pub told-fits : n + m ≤ length o
-    told-fits = omega (arith, h e, w .count)
+pub told-to-on : {on : Bool} (x o : List ℕ) (n : ℕ) → on ≡ true → {c : List ℕ} {m : ℕ} → Wrote x (take (length o - n) (drop n o)) c m → n + m ≡ toldTo on x n
+unfolding toldTo
+told-to-on x o n e w = rw e (ap (λ k. n + k) (w .count))

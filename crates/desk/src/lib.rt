@@ -1,7 +1,6 @@
 // The faces that strangers call: from any bytes to the bytes that a program prints.
 use listing_lines::TextAnswer;
 use plan::Complaint;
-use plan::Refusal;
 use plan::no_room;
 use plan_tables::PlanRecord;
 use read_answer::PlanAnswer;
@@ -12,10 +11,10 @@ ghost use lib.ListN.{length};
 ghost use Rattle.plan.specs.Reading.{reading};
 ghost use Rattle.plan_tables.specs.Layout.{lent};
 ghost use Rattle.plan_tables.specs.Given.{isGiven};
-ghost use Rattle.listing.specs.Listing.{refusedLine, verdictText};
+ghost use Rattle.listing.specs.Listing.{verdictText};
 ghost use Rattle.board_events.specs.Events.{boardText};
 ghost use Rattle.text_letters.specs.Wrote.{Wrote};
-ghost use Rattle.listing_lines.specs.Into.{textAnswer, textAfter, bytesIn};
+ghost use Rattle.listing_lines.specs.Into.{textAnswer, textAfter};
 ghost use Rattle.records_read.specs.Lies.{Sure};
 ghost use Rattle.desk.specs.Read.{recordIn, complaintIn};
 ghost use Rattle.desk.specs.Told.{toldIn, toldOr, textFor};
@@ -39,18 +38,6 @@ fn complaint_in(a: PlanAnswer) -> Complaint
         PlanAnswer::Accepted(_) => no_room(),
         PlanAnswer::Refused(c) => c,
     }
-}
-
-// Writes the one line of a refusal; with too little room 8, and the buffer as it was lent.
-fn refusal_text(c: Complaint, out: &mut [u8]) -> TextAnswer
-    ensures { λ a. ⌜ a ≡ textAnswer (refusedLine c) (now (out .entry)) ⌝ }
-    ensures { λ a. ⌜ now (out .exit) ≡ textAfter (refusedLine c) (now (out .entry)) ⌝ }
-{
-    if out.len() < listing_lines::refused_size(c) {
-        return TextAnswer::Refused(Refusal::Room);
-    }
-    let n = listing_lines::refused_line(out, c);
-    TextAnswer::Written(n)
 }
 
 // Writes, for the plan in tables that passed the test for 9, the answers to the events of src where `on`, else its listing.
@@ -93,7 +80,7 @@ fn text_or(
         let r = record_in(a);
         return text_into(on, r, vt, mt, ot, ts, src, out);
     }
-    refusal_text(complaint_in(a), out)
+    desk_refusals::refusal_text(complaint_in(a), out)
 }
 
 // Reads a plan, and writes the answers to the events of src where `on`, else its listing; or its refusal.
@@ -116,10 +103,10 @@ pub fn board_text(plan: &[u8], src: &[u8], out: &mut [u8]) -> TextAnswer
     ensures { λ x. ⌜ now (out .exit) ≡ textAfter (boardText (now (plan .entry)) (now (src .entry))) (now (out .entry)) ⌝ }
 {
     if desk_rooms::too_large(plan.len()) {
-        return refusal_text(no_room(), out);
+        return desk_refusals::refusal_text(no_room(), out);
     }
     if desk_rooms::too_large(src.len()) {
-        return refusal_text(no_room(), out);
+        return desk_refusals::refusal_text(no_room(), out);
     }
     text_of(true, plan, src, out)
 }
@@ -130,19 +117,9 @@ pub fn verdict_text(src: &[u8], out: &mut [u8]) -> TextAnswer
     ensures { λ x. ⌜ now (out .exit) ≡ textAfter (verdictText (now (src .entry))) (now (out .entry)) ⌝ }
 {
     if desk_rooms::too_large(src.len()) {
-        return refusal_text(no_room(), out);
+        return desk_refusals::refusal_text(no_room(), out);
     }
     text_of(false, src, src, out)
-}
-
-// How many bytes a call has written.
-fn bytes_in(a: TextAnswer) -> usize
-    ensures { λ n. ⌜ n ≡ bytesIn a ⌝ }
-{
-    match a {
-        TextAnswer::Written(n) => n,
-        TextAnswer::Refused(_) => 0,
-    }
 }
 
 // What `board` prints, into a buffer of at least its program's size; returns the bytes written.
@@ -152,7 +129,7 @@ pub fn board_in(plan: &[u8], src: &[u8], out: &mut [u8]) -> usize
     ensures { λ n. ⌜ Counted n (now (out .exit)) ⌝ }
 {
     let a = board_text(plan, src, out);
-    bytes_in(a)
+    desk_refusals::bytes_in(a)
 }
 
 // What `verdict` prints, into a buffer of at least its program's size; returns the bytes written.
@@ -162,5 +139,5 @@ pub fn verdict_in(src: &[u8], out: &mut [u8]) -> usize
     ensures { λ n. ⌜ Counted n (now (out .exit)) ⌝ }
 {
     let a = verdict_text(src, out);
-    bytes_in(a)
+    desk_refusals::bytes_in(a)
 }

@@ -1,1 +1,1 @@
-// A listing asked for of lent tables: this crate has definitions and proofs only, in specs/.
+// A text asked for of lent tables: this crate has definitions and proofs only, in specs/.

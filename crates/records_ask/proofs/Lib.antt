@@ -1,1 +1,2 @@
 pub mod Both
+pub mod Arms

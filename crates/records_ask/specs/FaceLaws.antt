@@ -5,6 +5,7 @@ use mathlib.Core.List.{List}
 use Rattle.plan.specs.Limits.{mostTasks}
 use Rattle.laws.specs.Choice.{if_then_else_}
 use Rattle.plan.specs.declared.Refusal.the-variants.{Range, Foreign}
+use Rattle.plan.specs.Plan.{Plan}
 use Rattle.plan_tables.specs.declared.PlanRecord.{PlanRecord}
 use Rattle.plan_tables.specs.Layout.{Tables}
 use Rattle.figures.specs.System.{system}
@@ -12,10 +13,9 @@ use Rattle.answers_tasks.specs.declared.RowAnswer.the-variants.{NoRow}
 use Rattle.answers_tasks.specs.declared.TaskRowAnswer.the-variants.{NoTaskRow}
 use Rattle.answers_tasks.specs.declared.FigureAnswer.the-variants.{NoFigure}
 use Rattle.answers_tasks.specs.Asked.{vcpuRowOf, waitRowOf, taskRowOf, responseRowOf, vcpuAsked, waitAsked, taskAsked, responseAsked}
-use Rattle.listing.specs.Listing.{listing}
 use Rattle.listing_lines.specs.declared.TextAnswer.the-variants.{Refused}
 use Rattle.listing_lines.specs.Into.{textAnswer, textAfter}
-use Rattle.listing_asked.specs.Asked.{listingAsked, listingLeft}
+use Rattle.listing_asked.specs.Asked.{textAsked, textLeft}
 use Rattle.clock_rules.specs.declared.RunAnswer.the-variants.{NoRun}
 use Rattle.clock_rules.specs.Clock.{timingOf, runOf, isHorizon, runFor}
 use Rattle.records.specs.declared.Task.{Task}
@@ -43,10 +43,10 @@ module _ (vt mt ot : List ℕ) (ks : List Task) (r : PlanRecord) where
   reply-cut (RunTo h) =
       ap Run (cut-told vt mt ot ks (λ p. if isHorizon h then runOf (timingOf (system p)) h else NoRun Range) (NoRun Foreign) r)
 
-  pub listing-cut : (o : List ℕ) → listingAsked r cut o ≡ listingAsked r whole o
-  unfolding listingAsked
-  listing-cut o = cut-told vt mt ot ks (λ p. textAnswer (listing (system p)) o) (Refused Foreign) r
+  pub text-cut : (f : Plan → List ℕ) (o : List ℕ) → textAsked f r cut o ≡ textAsked f r whole o
+  unfolding textAsked
+  text-cut f o = cut-told vt mt ot ks (λ p. textAnswer (f p) o) (Refused Foreign) r
 
-  pub left-cut : (o : List ℕ) → listingLeft r cut o ≡ listingLeft r whole o
-  unfolding listingLeft
-  left-cut o = cut-told vt mt ot ks (λ p. textAfter (listing (system p)) o) o r
+  pub left-cut : (f : Plan → List ℕ) (o : List ℕ) → textLeft f r cut o ≡ textLeft f r whole o
+  unfolding textLeft
+  left-cut f o = cut-told vt mt ot ks (λ p. textAfter (f p) o) o r

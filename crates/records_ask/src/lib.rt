@@ -9,9 +9,10 @@ ghost use mathlib.Core.Path.{_≡_};
 ghost use Prim.Native.Nat.{_≤_};
 ghost use lib.ListN.{length, take};
 ghost use Rattle.plan_tables.specs.Layout.{lent};
-ghost use Rattle.listing_asked.specs.Asked.{listingAsked, listingLeft};
+ghost use Rattle.listing_asked.specs.Asked.{textAsked, textLeft};
 ghost use Rattle.records.specs.Sheet.{tablesOf};
 ghost use Rattle.records_reply.specs.Replies.{replyTo};
+ghost use Rattle.records_ask.specs.Wanted.{wanted};
 
 // The reply, on the first c numbers of the rows.
 fn reply_in(
@@ -45,36 +46,47 @@ pub fn reply(
     reply_in(r, vt, mt, ot, &rows, q, c)
 }
 
-// The listing into a lent buffer, on the first c numbers of the rows.
-fn listing_in(
+// What is written of the plan in lent tables: its listing, or its own bytes.
+pub enum Text {
+    Listing,
+    Plan,
+}
+
+// The text into a lent buffer, on the first c numbers of the rows.
+fn text_in(
     r: PlanRecord,
     vt: &[u64],
     mt: &[u64],
     ot: &[u64],
     rows: &[u64],
+    what: Text,
     out: &mut [u8],
     c: usize,
 ) -> TextAnswer
     requires { ⌜ c ≤ length (now rows) ⌝ }
-    ensures { λ a. ⌜ (a ≡ listingAsked r (lent (now (vt .entry)) (now (mt .entry)) (now (ot .entry)) (take c (now (rows .entry)))) (now (out .entry)))
-        × (now (out .exit) ≡ listingLeft r (lent (now (vt .entry)) (now (mt .entry)) (now (ot .entry)) (take c (now (rows .entry)))) (now (out .entry))) ⌝ }
+    ensures { λ a. ⌜ (a ≡ textAsked (wanted what) r (lent (now (vt .entry)) (now (mt .entry)) (now (ot .entry)) (take c (now (rows .entry)))) (now (out .entry)))
+        × (now (out .exit) ≡ textLeft (wanted what) r (lent (now (vt .entry)) (now (mt .entry)) (now (ot .entry)) (take c (now (rows .entry)))) (now (out .entry))) ⌝ }
 {
-    listing_write::write_listing(r, vt, mt, ot, &rows[..c], out)
+    match what {
+        Text::Listing => listing_write::write_listing(r, vt, mt, ot, &rows[..c], out),
+        Text::Plan => write_tables::write_plan(r, vt, mt, ot, &rows[..c], out),
+    }
 }
 
-// Writes the listing of the plan in lent tables into a lent buffer: 9 first, then 8.
-pub fn write_listing(
+// Writes what is wanted of the plan in lent tables into a lent buffer: 9 first, then 8.
+pub fn write(
     r: PlanRecord,
     vt: &[u64],
     mt: &[u64],
     ot: &[u64],
     tasks: &[Task],
+    what: Text,
     out: &mut [u8],
 ) -> TextAnswer
-    ensures { λ a. ⌜ a ≡ listingAsked r (tablesOf (now (vt .entry)) (now (mt .entry)) (now (ot .entry)) (now (tasks .entry))) (now (out .entry)) ⌝ }
-    ensures { λ a. ⌜ now (out .exit) ≡ listingLeft r (tablesOf (now (vt .entry)) (now (mt .entry)) (now (ot .entry)) (now (tasks .entry))) (now (out .entry)) ⌝ }
+    ensures { λ a. ⌜ a ≡ textAsked (wanted what) r (tablesOf (now (vt .entry)) (now (mt .entry)) (now (ot .entry)) (now (tasks .entry))) (now (out .entry)) ⌝ }
+    ensures { λ a. ⌜ now (out .exit) ≡ textLeft (wanted what) r (tablesOf (now (vt .entry)) (now (mt .entry)) (now (ot .entry)) (now (tasks .entry))) (now (out .entry)) ⌝ }
 {
     let mut rows = records::no_rows();
     let c = records::load(tasks, &mut rows, MOST_TASKS);
-    listing_in(r, vt, mt, ot, &rows, out, c)
+    text_in(r, vt, mt, ot, &rows, what, out, c)
 }

@@ -9,16 +9,21 @@ use std::sync::Mutex;
 
 use oracle::clock::{clock_text_of, end_text};
 use oracle::events::board_text;
-use oracle::generate::{board_case, clock_case, plan_case, run_case};
+use oracle::generate::{board_case, clock_case, plan_case, run_case, table_case, TableCase};
 use oracle::tally::{Tally, Watch};
 use oracle::verdict::verdict_text;
+use oracle::write::rewrite_text;
 
 const USAGE: &str = "usage:
   compare verdict SEED COUNT SAVE PROGRAM [ARG ..]    COUNT generated plans: the listing
   compare board SEED COUNT SAVE PROGRAM [ARG ..]      COUNT generated plans with events
   compare clock SEED COUNT SAVE PROGRAM [ARG ..]      COUNT generated plans with a horizon
   compare run SEED COUNT SAVE PROGRAM [ARG ..]        COUNT generated plans with a horizon as a number: how the run ends
+  compare rewrite SEED COUNT SAVE PROGRAM [ARG ..]    COUNT generated plans: read and written again
+  compare write SEED COUNT SAVE PROGRAM [ARG ..]      COUNT generated tables with room for their text: what is returned, and
+                                                      every byte of the buffer
   compare plans FOLDER SAVE PROGRAM [ARG ..]          the plans that FOLDER/want.tsv names, and what it wants of each
+  compare rewrites FOLDER SAVE PROGRAM [ARG ..]       the same plans: an accepted one comes back as it is
   compare events FOLDER SAVE PROGRAM [ARG ..]         every folder in FOLDER: plan.tsv (if any), events.tsv, want.tsv
   compare horizons FOLDER SAVE PROGRAM [ARG ..]       every folder in FOLDER: plan.tsv (if any), horizon.tsv, want.tsv
 A case on which the program and the reference differ, or the reference and what is wanted, is kept in the folder SAVE.
@@ -48,6 +53,14 @@ impl Want {
         }
     }
 
+    /// What is wanted of the plan read and written again: an accepted one itself.
+    fn rewritten(self, plan: &[u8]) -> Want {
+        match self {
+            Want::Text(bytes) if bytes.starts_with(b"refused\t") => Want::Text(bytes),
+            _ => Want::Text(plan.to_vec()),
+        }
+    }
+
     fn words(&self) -> &[u8] {
         match self {
             Want::Accepted => b"accepted\n",
@@ -61,22 +74,27 @@ impl Want {
 enum Input {
     /// The plan itself, for `verdict`.
     Plan,
+    /// The plan itself, for `rewrite`.
+    Again,
     /// For `board`.
     Events(Vec<u8>),
     /// For `clock`.
     Horizon(Vec<u8>),
     /// For the function for C: the horizon.
     Ticks(u64, Vec<u8>),
+    /// For the function for C that writes: tables and room.
+    Tables(TableCase, Vec<u8>),
 }
 
 impl Input {
     /// The bytes beside the plan, and the name of the file in which they are kept.
     fn beside(&self) -> Option<(&str, &[u8])> {
         match self {
-            Input::Plan => None,
+            Input::Plan | Input::Again => None,
             Input::Events(bytes) => Some(("events.tsv", bytes)),
             Input::Horizon(bytes) => Some(("horizon.tsv", bytes)),
             Input::Ticks(_, bytes) => Some(("horizon.txt", bytes)),
+            Input::Tables(_, bytes) => Some(("tables.txt", bytes)),
         }
     }
 }
@@ -155,8 +173,36 @@ fn run(args: &[String]) -> Result<u64, String> {
                 })
             })
         }
+        ["rewrite", seed, count, save, program @ ..] if !program.is_empty() => {
+            let seed = number(seed)?;
+            all(number(count)?, save, program, &|index| {
+                Some(Case {
+                    name: format!("rewrite-{}-{}", seed, index),
+                    plan: Some(plan_case(seed, index)),
+                    input: Input::Again,
+                    want: None,
+                })
+            })
+        }
+        ["write", seed, count, save, program @ ..] if !program.is_empty() => {
+            let seed = number(seed)?;
+            all(number(count)?, save, program, &|index| {
+                let case = table_case(seed, index);
+                let text = case.call.text();
+                Some(Case {
+                    name: format!("write-{}-{}", seed, index),
+                    plan: None,
+                    input: Input::Tables(case, text),
+                    want: None,
+                })
+            })
+        }
         ["plans", folder, save, program @ ..] if !program.is_empty() => {
             stored(stored_plans(Path::new(folder))?, save, program)
+        }
+        ["rewrites", folder, save, program @ ..] if !program.is_empty() => {
+            let plans = stored_plans(Path::new(folder))?;
+            stored(plans.into_iter().map(again).collect(), save, program)
         }
         ["events", folder, save, program @ ..] if !program.is_empty() => {
             let cases = stored_folders(Path::new(folder), "events.tsv", &Input::Events)?;
@@ -247,6 +293,17 @@ fn stored_plans(folder: &Path) -> Result<Vec<Case>, String> {
         }
     }
     Ok(cases)
+}
+
+/// The same plan for `rewrite`.
+fn again(case: Case) -> Case {
+    let plan = case.plan.unwrap_or_default();
+    Case {
+        name: case.name,
+        input: Input::Again,
+        want: case.want.map(|want| want.rewritten(&plan)),
+        plan: Some(plan),
+    }
 }
 
 /// Each folder has a file for standard input and want.tsv, and plan.tsv unless the plan is absent.
@@ -369,6 +426,7 @@ fn one(
             held.add_listing(&plan, &wanted);
             wanted
         }
+        Input::Again => rewrite_text(&plan),
         Input::Events(events) => {
             let wanted = board_text(&plan, events);
             held.add_answers(&plan, events, &wanted);
@@ -385,10 +443,11 @@ fn one(
             held.add_end(&plan, &wanted);
             wanted
         }
+        Input::Tables(case, _) => {
+            held.add_write(case.kind, &case.call);
+            case.call.answer()
+        }
     };
-    if let Ok(mut all) = done.lock() {
-        all.1.add(&held);
-    }
     let got = match case.input.beside() {
         None => printed(program, None, &plan)?,
         Some((_, input)) => {
@@ -405,6 +464,12 @@ fn one(
             got
         }
     };
+    if let Input::Again = case.input {
+        held.add_rewrite(&plan, &got);
+    }
+    if let Ok(mut all) = done.lock() {
+        all.1.add(&held);
+    }
     let meets = case.want.as_ref().map_or(true, |w| w.meets(&wanted));
     if got == wanted && meets {
         return Ok(true);

@@ -26,7 +26,7 @@ returns c =
     let e = c .before .before .before .before .if1 .taken in
     let x = eventLine (s .args .t) (s .args .e) (s .args .a) in
     let w = c .before .before .event-line .ensures in
-    (told-to-on x (s .args .out .now) (s .args .at) e (s .pre) w, told-on x (s .args .out .now) (s .args .at) e (s .pre) w)
+    (told-to-on x (s .args .out .now) (s .args .at) e w, told-on x (s .args .out .now) (s .args .at) e (s .pre) w)
 
 returns-2 : tie.Need-returns-2
 returns-2 c =

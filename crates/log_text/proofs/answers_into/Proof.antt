@@ -2,7 +2,7 @@
 use borrow.Author.Needs.{needs}
 use Rattle.figures_slices.specs.FitLaws.{given-fit}
 use Rattle.board_rules.specs.Marked.{view-marked}
-use Rattle.desk_rooms.specs.Boarded.{view-short, view-text}
+use Rattle.log_text.specs.Viewed.{view-short, view-text}
 use Rattle.log_text.proofs.answers_into.Statement.{statement}
 use Rattle.log_text.proofs.answers_into.Tie as tie
 
