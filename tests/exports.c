@@ -143,10 +143,10 @@ static int all_writes(void) {
            changed("a policy of 2", record, 2) && changed("an overrun of 2", record + 1, 2) &&
            changed("no task", record + 5, 0) && changed("a row too many", record + 5, 3) &&
            changed("more rows than there are", record + 5, 4) && changed("rows that wrap", record + 2, UINT64_MAX) &&
-           changed("a VCPU of another guest", tasks + 29, 1) && changed("a local mutex of nobody", mutexes + 1, 3) &&
+           changed("a task twice", tasks + 29, 1) && changed("a mutex of a VCPU that is not there", mutexes + 1, 3) &&
            changed("a lock that is not there", tasks + 8, 1) && changed("nine locks", tasks + 4, 9) &&
            changed("eight digits", tasks + 2, 10000000) && changed("a budget above its period", vcpus + 3, 21) &&
-           changed("a pair that does not rise", opens + 2, 0);
+           changed("a pair that does not rise", opens + 3, 1);
 }
 
 int main(int argc, char **argv) {

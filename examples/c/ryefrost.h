@@ -1,4 +1,6 @@
-/* The proved functions of libexports.a (`rt staticlib exports`: target/staticlib/libexports.a, x86-64).
+/* The proved functions for C, in two archives for x86-64: ryefrost_verdict, ryefrost_board and ryefrost_run in libexports.a
+ * (`rt staticlib exports`: target/staticlib/libexports.a), ryefrost_write in libexports_write.a (`rt staticlib
+ * exports_write`). A program may link both.
  *
  * The first two write the text that a program prints into `out` and return its size in bytes. With too little room they
  * return -8 and leave `out` as it was. No input is too strange: a refused plan is a text too, `refused`, its number, its
@@ -15,7 +17,7 @@
 /* Sizes of `out` that are always enough. */
 #define RYEFROST_VERDICT_BYTES 16803
 #define RYEFROST_BOARD_BYTES 655360
-#define RYEFROST_WRITE_BYTES 66960
+#define RYEFROST_WRITE_BYTES 64170
 
 /* The numbers that `missed` is to have places for. */
 #define RYEFROST_MISSED_SIZE 3
@@ -26,7 +28,7 @@
 /* Tables that no accepted plan gives. */
 #define RYEFROST_FOREIGN (-9)
 
-/* The record of a plan in tables: six numbers, the policy, the overrun choice, and how many rows each table has. */
+/* The record of a plan in tables: exactly six numbers, the policy, the overrun choice, and how many rows each table has. */
 #define RYEFROST_RECORD_SIZE 6
 #define RYEFROST_POLICY_P 0
 #define RYEFROST_POLICY_D 1
@@ -68,10 +70,11 @@ int64_t ryefrost_run(const uint8_t *plan, size_t plan_size, uint64_t horizon, ui
  *   opens    m guest
  *   tasks    v n period first count, then 8 times m ticks after
  * where `first` is the task's first `run`, `count` its locks, and each lock has its mutex, its ticks and the `run` after
- * it; the places of locks that a task does not have are 0. Sections are not in the tables: a task is its VCPU's guest's.
- * Sizes are in numbers, of `out` in bytes; numbers beyond the rows are not looked at. Returns -9 where no accepted plan
- * gives this record and these rows, then -8 where the bytes do not fit; both leave `out` as it was. Read again, the bytes
- * give the same record and the same rows. */
+ * it; the places of locks that a task does not have are 0. Sections are not in the tables: a task is its VCPU's guest's,
+ * and the rows of tasks stand as their lines do, by guest, then v, then n. Sizes are in numbers, of `out` in bytes; a
+ * table's numbers beyond the rows that the record counts are not looked at. Returns -9 where no accepted plan gives this
+ * record and these rows, then -8 where the bytes do not fit; both leave `out` as it was. The bytes are a plan that the
+ * other functions take, and the reader's tables of it are these. */
 int64_t ryefrost_write(const uint64_t *record, size_t record_size, const uint64_t *vcpus, size_t vcpus_size,
                        const uint64_t *mutexes, size_t mutexes_size, const uint64_t *opens, size_t opens_size,
                        const uint64_t *tasks, size_t tasks_size, uint8_t *out, size_t out_size);

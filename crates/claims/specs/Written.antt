@@ -1,4 +1,4 @@
--- From bytes to bytes: an accepted plan, read into records and written out of them, comes back byte for byte, and what is written out of records, read again, gives the same (over rows of numbers: write_asked/Back).
+-- From bytes to bytes: an accepted plan, read into records and written out of them, comes back byte for byte, and what is written out of records, read into them again, leaves their numbers (over rows of numbers, and into other tables: write_asked/Back).
 use Prim.Native.Nat.{ℕ}
 use mathlib.Core.Path.{_≡_, ap, _∙_}
 use mathlib.Core.List.{List}
@@ -34,7 +34,7 @@ module _ (vt mt ot : List ℕ) (ks : List Task) (r : PlanRecord) where
       let w = read-written s lent r e o in
       (ap (λ t. planAsked r t o) (sheets-left s vt mt ot ks) ∙ w .0, ap (λ t. planLeft r t o) (sheets-left s vt mt ot ks) ∙ w .1)
 
-  -- written, and read: the same record, and the tables and records as they are
+  -- written, and read: the same record, and the numbers of the tables and records as they are
   pub sheet-read :
       (o : List ℕ) (n : ℕ) → textAsked (wanted Plan) r lent o ≡ Written n →
       let s : List ℕ = take n (textLeft (wanted Plan) r lent o) in

@@ -25,6 +25,7 @@ use Rattle.read_answer.specs.declared.PlanAnswer.the-variants.{Accepted, Refuse
 use Rattle.read_answer.specs.Into.{planAnswer}
 use Rattle.read_answer.specs.Judged.{linesLeft}
 use Rattle.read_answer.specs.Ample.{Ample}
+use Rattle.write_asked.specs.Short.{plan-short}
 use Rattle.records_read.specs.Lies.{refused-reads, left-lies}
 use Rattle.listing.specs.Listing.{refusedLine}
 use Rattle.listing_order.specs.Bound.{refused-bound, refused-line}
@@ -45,10 +46,14 @@ abbrev pub rewriteOr : PlanAnswer → Tables → List ℕ
 rewriteOr (Accepted r) t = text (planIn r t)
 rewriteOr (Refused c) t = refusedLine c
 
+-- no accepted plan is above 65,536 bytes
+pub accepted-small : (s : List ℕ) (p : Plan) → reading s ≡ Accepts p → length s ≤ maxInput
+accepted-small s p e = let w = read-text s p e in omega (arith, ap length (w .1), plan-short p (w .0))
+
 -- "an accepted plan read and written comes back byte for byte"
-pub rewrite-same : (s : List ℕ) (p : Plan) → length s ≤ maxInput → reading s ≡ Accepts p → rewriteText s ≡ s
+pub rewrite-same : (s : List ℕ) (p : Plan) → reading s ≡ Accepts p → rewriteText s ≡ s
 unfolding rewriteText
-rewrite-same s p h e = rw (le-ltb maxInput (length s) h, e) (sym (read-text s p e .1))
+rewrite-same s p e = rw (le-ltb maxInput (length s) (accepted-small s p e), e) (sym (read-text s p e .1))
 
 -- no text of `rewrite` is longer than what it reads may be
 abbrev pub rewriteBytes : ℕ

@@ -23,7 +23,7 @@ use Rattle.listing_lines.specs.declared.TextAnswer.the-variants.{Refused}
 use Rattle.listing_lines.specs.Into.{bytesIn}
 use Rattle.write_asked.specs.Asked.{planAsked, planLeft}
 use Rattle.write_asked.specs.Back.{Outcome, Whole, Short, Nobody, outcome}
-use Rattle.write_asked.specs.Short.{text-short}
+use Rattle.write_asked.specs.Short.{mostText, text-short}
 
 abbrev pub policyNumber : Policy → ℕ
 policyNumber Periodic = 0
@@ -111,6 +111,15 @@ record-exactly ns = (
   λ h. ap isRecord (h .1) ∙ rw (policy-back (h .0 .policy) .1, overrun-back (h .0 .overrun) .1),
 )
 
+-- what is asked of a record's numbers is what is asked of the record, so all that is said of plans in tables (write_asked/Back) holds for C
+pub numbers-same : (r : PlanRecord) (t : Tables) (o : List ℕ) → (numbersAsked (numbersOf r) t o ≡ planAsked r t o) × (numbersLeft (numbersOf r) t o ≡ planLeft r t o)
+unfolding numbersAsked numbersLeft
+numbers-same r t o =
+    let e = record-exactly (numbersOf r) .1 (r, refl) in
+    let f = record-back r in
+    (ap (λ (b : Bool). if b then planAsked (recordFrom (numbersOf r)) t o else Refused Foreign) e ∙ ap (λ x. planAsked x t o) f,
+    ap (λ (b : Bool). if b then planLeft (recordFrom (numbersOf r)) t o else o) e ∙ ap (λ x. planLeft x t o) f)
+
 -- AS CODE FINDS OUT
 pub policy-some : (n : ℕ) → (n ≡ 0 → ⊥) → Deferrable ≡ policyFrom n
 policy-some zero h = absurd (h refl)
@@ -143,13 +152,13 @@ module _ (ns : List ℕ) (t : Tables) (o : List ℕ) {b : Bool} (e : b ≡ isRec
   numbers-some h k f g = rw (sym e ∙ h) (f ∙ ap (λ r. planAsked r t o) k, g ∙ ap (λ r. planLeft r t o) k)
 
 -- no answer counts more bytes than a number of 64 bits with a sign can hold
-asked-short : (r : PlanRecord) (t : Tables) (o : List ℕ) → bytesIn (planAsked r t o) ≤ 66960
+asked-short : (r : PlanRecord) (t : Tables) (o : List ℕ) → bytesIn (planAsked r t o) ≤ mostText
 asked-short r t o = go (outcome r t o)
   where
-    go : Outcome r t o → bytesIn (planAsked r t o) ≤ 66960
-    go (Whole g l e h) = subst (λ a. bytesIn a ≤ 66960) (sym e) (text-short r t (given-exactly r t .1 g))
-    go (Short g l e h) = subst (λ a. bytesIn a ≤ 66960) (sym e) (omega arith)
-    go (Nobody g e h) = subst (λ a. bytesIn a ≤ 66960) (sym e) (omega arith)
+    go : Outcome r t o → bytesIn (planAsked r t o) ≤ mostText
+    go (Whole g l e h) = subst (λ a. bytesIn a ≤ mostText) (sym e) (text-short r t (given-exactly r t .1 g))
+    go (Short g l e h) = subst (λ a. bytesIn a ≤ mostText) (sym e) (omega arith)
+    go (Nobody g e h) = subst (λ a. bytesIn a ≤ mostText) (sym e) (omega arith)
 
 pub numbers-short : (ns : List ℕ) (t : Tables) (o : List ℕ) → bytesIn (numbersAsked ns t o) < 2 ^ 63
 unfolding numbersAsked

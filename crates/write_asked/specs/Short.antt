@@ -1,4 +1,4 @@
--- The bytes of a plan in tables are few: it has at most 1,395 lines, of at most 48 bytes with their LF.
+-- The bytes of a plan are few: it has at most 1,395 lines, of at most 46 bytes with their LF, so no more than the programs read.
 use Prim.Native.Nat.{ℕ, zero, suc, _+_, _*_, _≤_, _<_}
 use mathlib.Core.Path.{_≡_, refl, ap, sym, _∙_}
 use mathlib.Core.List.{List, [], _∷_, _++_}
@@ -19,17 +19,23 @@ use Rattle.plan.specs.declared.Kind.{Kind}
 use Rattle.plan.specs.declared.Kind.the-variants.{EndLine}
 use Rattle.plan.specs.Line.{Form, Word, Num, Item, bad, shape, fieldsOf, lineOf, written}
 use Rattle.plan.specs.KindLaws.{all-kind}
-use Rattle.plan.specs.Plan.{Vcpu}
+use Rattle.plan.specs.Plan.{Vcpu, Plan}
+use Rattle.plan.specs.Valid.{Valid}
+use Rattle.plan.specs.Accepted.{read-text, text-once}
 use Rattle.plan.specs.Text.{item, linesOf, textOf, itemsOf, text}
 use Rattle.plan.specs.Rules.{Known, start}
 use Rattle.plan.specs.Reading.{Passes, rules}
 use Rattle.plan.specs.JudgeLaws.{fault-written}
 use Rattle.plan.specs.ValidLaws.{valid-passes}
 use Rattle.plan_tables.specs.declared.PlanRecord.{PlanRecord}
-use Rattle.plan_tables.specs.Layout.{Tables, taskWidth, cell, vcpuRow}
+use Rattle.plan_tables.specs.Layout.{Tables, lent, taskWidth, cell, vcpuRow, zeros, recordOf}
 use Rattle.plan_tables.specs.Given.{planIn, isGiven}
-use Rattle.plan_tables.specs.GivenLaws.{given-plan}
+use Rattle.plan_tables.specs.LayoutLaws.{zeros-length}
+use Rattle.plan_tables.specs.GivenLaws.{roomy-exactly, plan-given, given-plan}
 use Rattle.plan_tables.specs.Sound.{Sound, given-sound}
+use Rattle.read_answer.specs.Into.{tablesAfter}
+use Rattle.read_answer.specs.Ample.{ample-roomy}
+use Rattle.read_answer.specs.Claims.{accepted-with-room, accepted-gives, accepted-given}
 use Rattle.given_tidy.specs.Hosts.{hostOf, begins}
 use Rattle.given_test.specs.Feed.{lined, vcpuLines, mutexLines, openLines, lockLines, guestLine, headLines, taskLines}
 use Rattle.given_test.specs.Tests.{rowItems}
@@ -60,16 +66,16 @@ fields-wide (Num ∷ ps) [] h = absurd (false≢true h)
 fields-wide (Num ∷ ps) (n ∷ ns) h =
     omega (arith, fields-wide ps ns (both-right (ltb n bad) _ h), decimal-length maxDigits n (omega arith) (ltb-true n bad (both-left (ltb n bad) _ h)))
 
-kind-wide : (k : Kind) → widest (shape k) ≤ 47
+kind-wide : (k : Kind) → widest (shape k) ≤ 45
 unfolding shape all
-kind-wide k = leb-true (widest (shape k)) 47 (all-kind (λ x. leb (widest (shape x)) 47) refl k)
+kind-wide k = leb-true (widest (shape k)) 45 (all-kind (λ x. leb (widest (shape x)) 45) refl k)
 
-line-short : (i : Item) → written (shape (i .kind)) (i .nums) ≡ true → length (lineOf i) ≤ 47
+line-short : (i : Item) → written (shape (i .kind)) (i .nums) ≡ true → length (lineOf i) ≤ 45
 unfolding lineOf
 line-short i h = omega (arith, joined-wide (fieldsOf (shape (i .kind)) (i .nums)), fields-wide (shape (i .kind)) (i .nums) h, kind-wide (i .kind))
 
 -- LINES that pass the rules
-lines-short : (t : Known) (is : List Item) → Passes rules t is → length (textOf is) ≤ length is * 48
+lines-short : (t : Known) (is : List Item) → Passes rules t is → length (textOf is) ≤ length is * 46
 unfolding textOf linesOf ended
 lines-short t [] h = omega arith
 lines-short t (i ∷ is) h =
@@ -117,7 +123,23 @@ rows-few r t s =
       length-append d e,
     )
 
-pub text-short : (r : PlanRecord) (t : Tables) → isGiven r t ≡ true → length (text (planIn r t)) ≤ 66960
+-- the most bytes
+abbrev pub mostText : ℕ
+mostText = 64170
+
+-- of a plan in tables
+pub text-short : (r : PlanRecord) (t : Tables) → isGiven r t ≡ true → length (text (planIn r t)) ≤ mostText
 text-short r t g =
     let p = given-plan r t g .0 in
     omega (arith, lines-short start (itemsOf (planIn r t)) (valid-passes (planIn r t) p), ap length (row-items r t), rows-few r t (given-sound r t g))
+
+-- of any valid plan: there are tables that it gives
+pub plan-short : (p : Plan) → Valid p → length (text p) ≤ mostText
+plan-short p v =
+    let t : Tables = lent (zeros 80) (zeros 64) (zeros 256) (zeros 1856) in
+    let room = roomy-exactly (recordOf p) t .0 (ample-roomy p t v (record { vcpus = omega (arith, zeros-length 80); mutexes = omega (arith, zeros-length 64); opens = omega (arith, zeros-length 256); tasks = omega (arith, zeros-length 1856) })) in
+    let e = accepted-with-room (text p) t (recordOf p) .1 (p, v, refl, room, refl) in
+    let w = accepted-gives (text p) t (recordOf p) e in
+    let k = text-short (recordOf p) (tablesAfter (text p) t) (accepted-given (text p) t (recordOf p) e) in
+    let same : planIn (recordOf p) (tablesAfter (text p) t) ≡ p = plan-given (w .2) (w .3) ∙ text-once (w .0) p (w .2) v (sym (read-text (text p) (w .0) (w .1) .1)) in
+    rw same at k
