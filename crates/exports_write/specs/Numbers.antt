@@ -116,9 +116,10 @@ pub numbers-same : (r : PlanRecord) (t : Tables) (o : List ℕ) → (numbersAske
 unfolding numbersAsked numbersLeft
 numbers-same r t o =
     let e = record-exactly (numbersOf r) .1 (r, refl) in
-    let f = record-back r in
-    (ap (λ (b : Bool). if b then planAsked (recordFrom (numbersOf r)) t o else Refused Foreign) e ∙ ap (λ x. planAsked x t o) f,
-    ap (λ (b : Bool). if b then planLeft (recordFrom (numbersOf r)) t o else o) e ∙ ap (λ x. planLeft x t o) f)
+    let f = record-back r in (
+      ap (λ (b : Bool). if b then planAsked (recordFrom (numbersOf r)) t o else Refused Foreign) e ∙ ap (λ x. planAsked x t o) f,
+      ap (λ (b : Bool). if b then planLeft (recordFrom (numbersOf r)) t o else o) e ∙ ap (λ x. planLeft x t o) f,
+    )
 
 -- AS CODE FINDS OUT
 pub policy-some : (n : ℕ) → (n ≡ 0 → ⊥) → Deferrable ≡ policyFrom n
