@@ -33,6 +33,12 @@ feeds r (i ∷ is) = feeds (feed r i) is
 abbrev pub passing : Run → Bool
 passing r = r .ok && coded .ready (r .seen)
 
+-- no section is begun and no task seen: only lines that come before them
+pub record Bare (r : Run) : Type 0 where
+  pub guest : r .seen .guest ≡ 0
+  pub tasks : r .seen .tasks ≡ 0
+  pub early : r .seen .phase ≤ 5
+
 -- THE ITEMS OF ROWS
 
 -- those of row 0, .., row (n - 1)

@@ -4,3 +4,5 @@ pub mod FeedLaws
 pub mod RowLaws
 pub mod TestLaws
 pub mod ItemLaws
+pub mod TaskLaws
+pub mod BareLaws

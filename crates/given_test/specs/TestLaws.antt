@@ -11,9 +11,9 @@ use Rattle.plan.specs.Rules as known
 use Rattle.plan.specs.Reading.{Passes, rules}
 use Rattle.plan.specs.ValidLaws.{passes-valid, valid-passes}
 use Rattle.plan.specs.declared.Kind.the-variants.{EndLine}
-use Rattle.plan.specs.Line.{Item, shape, size, numsOf}
+use Rattle.plan.specs.Line.{Item}
 use Rattle.plan.specs.Text as text
-use Rattle.judge_coded.specs.Coded.{coded, start, item}
+use Rattle.judge_coded.specs.Coded.{coded, start}
 use Rattle.judge_coded.specs.Agrees.{same-passes}
 use Rattle.plan_tables.specs.declared.PlanRecord.{PlanRecord}
 use Rattle.plan_tables.specs.Layout.{Tables, vcpuRow}
@@ -47,21 +47,19 @@ fed-then a b is js h = ap (λ x. feeds x js) h ∙ sym (feeds-append a is js)
 
 -- the rows in turn
 pub rows-clean :
-    (r : PlanRecord) (t : Tables) {a b c d e f : Run} {x : Bool} →
+    (r : PlanRecord) (t : Tables) {a b c d : Run} {x : Bool} →
     a ≡ feeds fresh (frontItems r []) → b ≡ feeds a (lined (r .vcpus) (vcpuLines (t .vcpus))) → c ≡ feeds b (lined (r .mutexes) (mutexLines (t .mutexes))) →
     d ≡ feeds c (lined (r .opens) (openLines (t .opens))) →
-    e ≡ feeds d (lined (r .tasks) (taskLines (rows (r .vcpus) (vcpuRow (t .vcpus))) (t .tasks))) → f ≡ feed e (item EndLine 0 0 0 0 0) → x ≡ passing f →
-    x ≡ cleanRows r t
-unfolding cleanRows rowItems feeds numsOf size shape
-rows-clean r t {a} {b} {c} {d} {e} {f} ha hb hc hd he hf hx =
+    x ≡ passing (feed (feeds d (lined (r .tasks) (taskLines (rows (r .vcpus) (vcpuRow (t .vcpus))) (t .tasks)))) (text.item EndLine [])) → x ≡ cleanRows r t
+unfolding cleanRows rowItems feeds
+rows-clean r t {a} {b} {c} {d} ha hb hc hd hx =
     let vs : List Item = lined (r .vcpus) (vcpuLines (t .vcpus)) in
     let ms : List Item = lined (r .mutexes) (mutexLines (t .mutexes)) in
     let os : List Item = lined (r .opens) (openLines (t .opens)) in
     let ks : List Item = lined (r .tasks) (taskLines (rows (r .vcpus) (vcpuRow (t .vcpus))) (t .tasks)) in
     let end : List Item = text.item EndLine [] ∷ [] in
-    let whole : f ≡ feeds fresh (rowItems r t) =
-    hf
-    ∙ fed-then d e ks end he
+    let whole : feeds (feeds d ks) end ≡ feeds fresh (rowItems r t) =
+    sym (feeds-append d ks end)
     ∙ fed-then c d os (ks ++ end) hd
     ∙ fed-then b c ms (os ++ (ks ++ end)) hc
     ∙ fed-then a b vs (ms ++ (os ++ (ks ++ end))) hb

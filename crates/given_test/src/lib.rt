@@ -1,34 +1,33 @@
 // The test for 9: do tables hold what some accepted plan gives? (specs/Given of `plan_tables`; specs/Tests has its tests one by one.)
+use given_tasks::tasks_clear;
 use given_tidy::all_tidy;
-use given_tidy::begins;
 use given_tidy::cell;
 use given_tidy::few;
-use given_tidy::host_of;
 use judge_coded::Seen;
 use judge_faults::fault_of;
-use judge_seen::ready;
 use judge_seen::seen_after;
 use judge_seen::start;
 use plan::Kind;
 use plan::OverrunChoice;
 use plan::Policy;
-use plan_tables::FIRST_LOCK;
-use plan_tables::LOCK_WIDTH;
+use plan::within;
 use plan_tables::MUTEX_WIDTH;
 use plan_tables::OPEN_WIDTH;
 use plan_tables::PlanRecord;
-use plan_tables::TASK_WIDTH;
 use plan_tables::VCPU_WIDTH;
 ghost use mathlib.Core.Path.{_≡_};
 ghost use mathlib.Core.Bool.{true};
 ghost use mathlib.Core.List.{[]};
-ghost use Prim.Native.Nat.{_≤_, _<_};
+ghost use Prim.Native.Nat.{_≤_};
 ghost use Rattle.laws.specs.Rows.{rows};
-ghost use Rattle.plan.specs.Limits.{maxLocks};
+ghost use Rattle.plan.specs.declared.Kind.the-variants.{EndLine};
+ghost use Rattle.plan.specs.Limits.{mostTasks};
+ghost use Rattle.plan.specs.Text as text;
 ghost use Rattle.plan.specs.Text.{policyKind};
 ghost use Rattle.judge_coded.specs.Coded.{item};
 ghost use Rattle.plan_tables.specs.Layout as layout;
 ghost use Rattle.plan_tables.specs.Given as tables;
+ghost use Rattle.given_tasks.specs.Clear.{tasksClear};
 ghost use Rattle.given_test.specs.Feed as feed;
 ghost use Rattle.given_test.specs.Tests as tests;
 
@@ -57,14 +56,6 @@ fn fresh() -> Run
         ok: true,
         seen: seen,
     }
-}
-
-// Is no item at fault, and may the plan stop here?
-fn passing(run: Run) -> bool
-    ensures { λ r. ⌜ r ≡ feed.passing run ⌝ }
-{
-    let seen = run.seen;
-    run.ok & ready(seen)
 }
 
 // After row i of the VCPUs.
@@ -112,18 +103,6 @@ fn fed_open(run: Run, t: &[u64], i: usize) -> Run
     fed(run, Kind::OpenLine, m, guest, 0, 0, 0)
 }
 
-// After lock j of task i.
-fn fed_lock(run: Run, t: &[u64], i: usize, j: usize) -> Run
-    requires { ⌜ (i ≤ tests.mostRows) × (j < maxLocks) ⌝ }
-    ensures { λ r. ⌜ r ≡ feed.feeds run (feed.lockLines (now (t .entry)) i j) ⌝ }
-{
-    let m = cell(t, TASK_WIDTH, i, FIRST_LOCK + (j * LOCK_WIDTH + 0));
-    let ticks = cell(t, TASK_WIDTH, i, FIRST_LOCK + (j * LOCK_WIDTH + 1));
-    let after = cell(t, TASK_WIDTH, i, FIRST_LOCK + (j * LOCK_WIDTH + 2));
-    let held = fed(run, Kind::LockLine, m, ticks, 0, 0, 0);
-    fed(held, Kind::RunLine, after, 0, 0, 0, 0)
-}
-
 // After the first n rows of the VCPUs.
 fn fed_vcpus(run: Run, t: &[u64], n: usize) -> Run
     requires { ⌜ n ≤ tests.mostRows ⌝ }
@@ -166,57 +145,6 @@ fn fed_opens(run: Run, t: &[u64], n: usize) -> Run
     s
 }
 
-// After the first n locks of task i.
-fn fed_locks(run: Run, t: &[u64], i: usize, n: usize) -> Run
-    requires { ⌜ (i ≤ tests.mostRows) × (n ≤ maxLocks) ⌝ }
-    ensures { λ r. ⌜ r ≡ feed.feeds run (feed.lined n (feed.lockLines (now (t .entry)) i)) ⌝ }
-{
-    let mut s = run;
-    let mut j = 0;
-    while j < n {
-        s = fed_lock(s, t, i, j);
-        j += 1;
-    }
-    s
-}
-
-// After a guest's line, if there is one.
-fn fed_guest(run: Run, on: bool, guest: u64) -> Run
-    ensures { λ r. ⌜ r ≡ feed.feeds run (feed.guestLine on guest []) ⌝ }
-{
-    if on {
-        fed(run, Kind::GuestLine, guest, 0, 0, 0, 0)
-    } else {
-        run
-    }
-}
-
-// After the first two lines of task i.
-fn fed_head(run: Run, t: &[u64], i: usize) -> Run
-    requires { ⌜ i ≤ tests.mostRows ⌝ }
-    ensures { λ r. ⌜ r ≡ feed.feeds run (feed.headLines (now (t .entry)) i []) ⌝ }
-{
-    let v = cell(t, TASK_WIDTH, i, 0);
-    let n = cell(t, TASK_WIDTH, i, 1);
-    let period = cell(t, TASK_WIDTH, i, 2);
-    let first = cell(t, TASK_WIDTH, i, 3);
-    let named = fed(run, Kind::TaskLine, v, n, period, 0, 0);
-    fed(named, Kind::RunLine, first, 0, 0, 0, 0)
-}
-
-// After the lines of task i.
-fn fed_task(run: Run, vt: &[u64], n: usize, t: &[u64], i: usize) -> Run
-    requires { ⌜ (n ≤ tests.mostRows) × (i ≤ tests.mostRows) × (layout.cell (now t) layout.taskWidth i 4 ≤ maxLocks) ⌝ }
-    ensures { λ r. ⌜ r ≡ feed.feeds run (feed.taskLines (rows n (layout.vcpuRow (now (vt .entry)))) (now (t .entry)) i) ⌝ }
-{
-    let on = begins(vt, n, t, i);
-    let guest = host_of(vt, n, t, i);
-    let count = cell(t, TASK_WIDTH, i, 4) as usize;
-    let led = fed_guest(run, on, guest);
-    let head = fed_head(led, t, i);
-    fed_locks(head, t, i, count)
-}
-
 // The kind of the policy's line.
 fn policy_kind(p: Policy, o: OverrunChoice) -> Kind
     ensures { λ r. ⌜ r ≡ policyKind p o ⌝ }
@@ -233,18 +161,30 @@ fn policy_kind(p: Policy, o: OverrunChoice) -> Kind
     }
 }
 
-// After the lines of the first m tasks.
-fn fed_tasks(run: Run, vt: &[u64], n: usize, t: &[u64], m: usize) -> Run
-    requires { ⌜ (n ≤ tests.mostRows) × (m ≤ tests.mostRows) × (tests.allTidy (now t) m ≡ true) ⌝ }
-    ensures { λ r. ⌜ r ≡ feed.feeds run (feed.lined m (feed.taskLines (rows n (layout.vcpuRow (now (vt .entry)))) (now (t .entry)))) ⌝ }
+// Are the lines of the first m tasks clear of faults, where one may stand after what is seen?
+fn seen_clear(seen: Seen, vt: &[u64], n: usize, t: &[u64], m: usize) -> bool
+    requires { ⌜ (n ≤ tests.mostRows) × (m ≤ mostTasks) × (tests.allTidy (now t) m ≡ true) ⌝ }
+    ensures { λ r. ⌜ r ≡ tasksClear (seen .guests) (seen .hosted) (seen .owners) (seen .opens) (now (t .entry)) (rows n (layout.vcpuRow (now (vt .entry)))) m ⌝ }
 {
-    let mut s = run;
-    let mut i = 0;
-    while i < m {
-        s = fed_task(s, vt, n, t, i);
-        i += 1;
+    let opens = seen.opens;
+    let owners = seen.owners;
+    let hosted = seen.hosted;
+    let guests = seen.guests;
+    tasks_clear(&guests, &hosted, &owners, &opens, vt, n, t, m)
+}
+
+// Are the lines of the first m tasks, and the last line after them, clear of faults? The run before them has begun no section.
+fn clean_tasks(run: Run, vt: &[u64], n: usize, t: &[u64], m: usize) -> bool
+    requires { ⌜ (n ≤ tests.mostRows) × (m ≤ mostTasks) × (tests.allTidy (now t) m ≡ true) × feed.Bare run ⌝ }
+    ensures { λ r. ⌜ r ≡ feed.passing (feed.feed (feed.feeds run (feed.lined m (feed.taskLines (rows n (layout.vcpuRow (now (vt .entry)))) (now (t .entry))))) (text.item EndLine [])) ⌝ }
+{
+    let seen = run.seen;
+    let q = seen.phase;
+    if run.ok & ((1 <= m) & (within(q, 3, 5) | (q == 7))) {
+        seen_clear(seen, vt, n, t, m)
+    } else {
+        false
     }
-    s
 }
 
 // After the first two lines.
@@ -268,9 +208,7 @@ fn clean_rows(r: PlanRecord, vt: &[u64], mt: &[u64], ot: &[u64], ts: &[u64]) -> 
     let vcpus = fed_vcpus(front, vt, n);
     let mutexes = fed_mutexes(vcpus, mt, r.mutexes);
     let opens = fed_opens(mutexes, ot, r.opens);
-    let tasks = fed_tasks(opens, vt, n, ts, r.tasks);
-    let end = fed(tasks, Kind::EndLine, 0, 0, 0, 0, 0);
-    passing(end)
+    clean_tasks(opens, vt, n, ts, r.tasks)
 }
 
 // Is every task's row as one of a plan, and has no item of the rows a fault?

@@ -1,19 +1,22 @@
 -- Laws of the search for a VCPU's guest: none of the rows so far has it, this row has it, no row has it; and whether a task begins a section.
-use Prim.Native.Nat.{ℕ, _+_, _-_, _≤_, _<_}
+use Prim.Native.Nat.{ℕ, zero, suc, _+_, _-_, _≤_, _<_}
 use mathlib.Core.Path.{_≡_, refl, ap, sym, _∙_}
 use mathlib.Core.List.{List, []}
-use mathlib.Core.Bool.{Bool, _||_, not}
-use lib.Dec.{eqb}
-use borrow.Author.Tests.{eq-eqb, ne-eqb}
+use mathlib.Core.Bool.{Bool, true, _&&_, _||_, not, false≢true}
+use native.Mathlib.Numerals.{add-one}
+use native.Mathlib.Omega.{arith}
+use lib.Dec.{eqb, leb}
+use borrow.Author.Tests.{eqb-true, eq-eqb, ne-eqb}
+use Rattle.laws.specs.BoolLaws.{both-right}
 use Rattle.laws.specs.SumLaws.{first-none}
 use Rattle.laws.specs.Rows.{rows, Lacking}
 use Rattle.laws.specs.FirstLaws.{first-row}
 use Rattle.laws.specs.RowLaws.{lacking-more, lacking-all}
 use Rattle.plan.specs.Plan.{Vcpu}
 use Rattle.plan.specs.Rules.{vcpuOf}
-use Rattle.plan_tables.specs.Layout.{vcpuWidth, cell, vcpuRow}
+use Rattle.plan_tables.specs.Layout.{vcpuWidth, taskWidth, cell, vcpuRow}
 use Rattle.plan_tables.specs.Given.{guestFor}
-use Rattle.given_tidy.specs.Hosts.{hostOf, begins}
+use Rattle.given_tidy.specs.Hosts.{hostOf, begins, lastAt}
 
 -- is this VCPU v?
 abbrev pub named : ℕ → Vcpu → Bool
@@ -43,3 +46,23 @@ pub begins-told :
     (vs : List Vcpu) (t : List ℕ) (i : ℕ) {p x y : ℕ} → p ≡ i - 1 → y ≡ hostOf vs t p → x ≡ hostOf vs t i → (eqb i 0 || not (eqb x y)) ≡ begins vs t i
 unfolding begins
 begins-told vs t i e f g = rw (g, f, e)
+
+-- a task of the VCPU of the task before it has that one's guest
+pub host-kept :
+    (vs : List Vcpu) (t : List ℕ) (i : ℕ) {p v w f : ℕ} → p ≡ i - 1 → v ≡ cell t taskWidth i 0 → w ≡ cell t taskWidth p 0 → f ≡ lastAt vs t i →
+    (leb 1 i && eqb v w) ≡ true → f ≡ hostOf vs t i
+unfolding hostOf
+host-kept vs t zero e a b h k = absurd (false≢true k)
+host-kept vs t (suc i) {v = v} {w} e a b h k =
+    let z : suc i - 1 ≡ i = omega arith in
+    h ∙ ap (guestFor vs) (sym (sym a ∙ eqb-true v w (both-right (leb 1 (suc i)) (eqb v w) k) ∙ b ∙ ap (λ q. cell t taskWidth q 0) (e ∙ z)))
+
+-- whether a task begins a section, and the guest of the section before the next, from its own guest and that of the section before it
+module _ (vs : List Vcpu) (t : List ℕ) where
+  pub begins-after : (i : ℕ) {g f : ℕ} {b : Bool} → f ≡ lastAt vs t i → g ≡ hostOf vs t i → b ≡ (eqb i 0 || not (eqb g f)) → b ≡ begins vs t i
+  unfolding begins
+  begins-after zero e h k = k
+  begins-after (suc i) e h k = let z : suc i - 1 ≡ i = omega arith in rw (k, h, e, z)
+
+  pub last-next : (i : ℕ) {g : ℕ} → g ≡ hostOf vs t i → g ≡ lastAt vs t (i + 1)
+  last-next i e = rw add-one e

@@ -11,6 +11,8 @@ use plan_tables::TASK_WIDTH;
 use plan_tables::VCPU_WIDTH;
 use plan_tables::at;
 ghost use mathlib.Core.Path.{_≡_};
+ghost use mathlib.Core.Bool.{_||_, not};
+ghost use lib.Dec.{eqb};
 ghost use Prim.Native.Nat.{_-_, _≤_};
 ghost use Rattle.laws.specs.Rows.{rows};
 ghost use Rattle.plan_tables.specs.Layout as layout;
@@ -48,7 +50,7 @@ fn guest_in(t: &[u64], n: usize, v: u64) -> u64
 }
 
 // The number before i, 0 before 0.
-fn prior(i: usize) -> usize
+pub fn prior(i: usize) -> usize
     ensures { λ r. ⌜ r ≡ i - 1 ⌝ }
 {
     if i == 0 { 0 } else { i - 1 }
@@ -69,6 +71,27 @@ pub fn begins(vt: &[u64], n: usize, t: &[u64], i: usize) -> bool
 {
     let last = host_of(vt, n, t, prior(i));
     (i == 0) | !(host_of(vt, n, t, i) == last)
+}
+
+// The guest of task i, where `last` is the guest of the section before it: the VCPUs are searched only for another one than the task before has.
+pub fn host_after(vt: &[u64], n: usize, t: &[u64], i: usize, last: u64) -> u64
+    requires { ⌜ (n ≤ tests.mostRows) × (i ≤ tests.mostRows) × (last ≡ hosts.lastAt (rows n (layout.vcpuRow (now vt))) (now t) i) ⌝ }
+    ensures { λ r. ⌜ r ≡ hosts.hostOf (rows n (layout.vcpuRow (now (vt .entry)))) (now (t .entry)) i ⌝ }
+{
+    let v = cell(t, TASK_WIDTH, i, 0);
+    let before = cell(t, TASK_WIDTH, prior(i), 0);
+    if (1 <= i) & (v == before) {
+        last
+    } else {
+        guest_in(vt, n, v)
+    }
+}
+
+// Does task i begin a section, where `guest` is its guest and `last` that of the section before it?
+pub fn begins_after(i: usize, guest: u64, last: u64) -> bool
+    ensures { λ r. ⌜ r ≡ (eqb i 0 || not (eqb guest last)) ⌝ }
+{
+    (i == 0) | !(guest == last)
 }
 
 // Are the places of task i from c on zero?

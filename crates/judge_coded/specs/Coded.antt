@@ -98,10 +98,13 @@ taskFault t v n p = unless (within v 1 maxV && ranged n maxN p maxPeriod) Range 
 unfoldable pub runFault : ℕ → Fault
 runFault x = unless (within x 0 maxLength) Range Clear
 
--- may the section's last task lock m: is it local to its VCPU, or a global one opened to the guest?
+-- may a task of VCPU v of guest g lock m, with the openings ps: is it local to v, or a global one opened to the guest?
+abbrev pub reachedBy : List ℕ → ℕ → ℕ → ℕ → ℕ → Bool
+reachedBy ps g v owner m = (within owner 1 maxV && eqb owner v) || (eqb owner global && eqb (getD ps (slot m g) 0) 1)
+
+-- the same of the section's last task
 abbrev pub reached : Seen → ℕ → ℕ → Bool
-reached t owner m =
-    (within owner 1 maxV && eqb owner (t .v)) || (eqb owner global && eqb (getD (t .opens) (slot m (t .guest)) 0) 1)
+reached t owner m = reachedBy (t .opens) (t .guest) (t .v) owner m
 
 unfoldable pub lockFault : Seen → ℕ → ℕ → Fault
 lockFault t m x =

@@ -7,6 +7,7 @@ use plan::MAX_PERIOD;
 use plan::MAX_V;
 use plan::within;
 ghost use mathlib.Core.Path.{_≡_};
+ghost use Rattle.plan.specs.Rules as rules;
 ghost use Rattle.plan.specs.Rules.{vcpuFits};
 ghost use Rattle.judge_coded.specs.Coded as coded;
 
@@ -58,6 +59,13 @@ pub fn ranged(x: u64, hi: u64, y: u64, top: u64) -> bool
     ensures { λ r. ⌜ r ≡ coded.ranged x hi y top ⌝ }
 {
     within(x, 1, hi) & within(y, 1, top)
+}
+
+// Does the pair (c, d) come after (a, b)?
+pub fn rises(a: u64, b: u64, c: u64, d: u64) -> bool
+    ensures { λ r. ⌜ r ≡ rules.rises a b c d ⌝ }
+{
+    (a < c) | ((a == c) & (b < d))
 }
 
 // Where the openings have m and guest; past their end for what is none.

@@ -2,7 +2,7 @@
 use judge_coded::GLOBAL;
 use judge_coded::Seen;
 use judge_coded::ranged;
-use judge_coded::slot;
+use judge_coded::rises;
 use judge_coded::vcpu_fits;
 use plan::Fault;
 use plan::Kind;
@@ -57,13 +57,6 @@ fn follows(q: u64, kind: Kind) -> bool
         Kind::TopLine => false,
         Kind::ShowLine => false,
     }
-}
-
-// Does the pair (c, d) come after (a, b)?
-fn rises(a: u64, b: u64, c: u64, d: u64) -> bool
-    ensures { λ r. ⌜ r ≡ rules.rises a b c d ⌝ }
-{
-    (a < c) | ((a == c) & (b < d))
 }
 
 // What is wrong with a line of each kind: `vcpu`, `mutex`, `open`, `guest`, `task`, `run`, `lock`.
@@ -151,21 +144,13 @@ fn run_fault(ticks: u64) -> Fault
     unless(within(ticks, 0, MAX_LENGTH), Refusal::Range, Fault::Clear)
 }
 
-// May the section's last task lock m: is it local to its VCPU, or a global one opened to the guest?
-fn reaches(t: Seen, owner: u64, m: u64) -> bool
-    ensures { λ r. ⌜ r ≡ coded.reached t owner m ⌝ }
-{
-    let near = within(owner, 1, MAX_V) & (owner == t.v);
-    let open = judge_hosts::at(&t.opens, slot(m, t.guest));
-    near | ((owner == GLOBAL) & (open == 1))
-}
-
 fn lock_fault(t: Seen, m: u64, ticks: u64) -> Fault
     ensures { λ r. ⌜ r ≡ coded.lockFault t m ticks ⌝ }
 {
     let owner = judge_hosts::at(&t.owners, m);
     let few = unless(t.locks < MAX_LOCKS, Refusal::TooMany, Fault::Clear);
-    let own = unless(reaches(t, owner, m), Refusal::Outside, few);
+    let reached = judge_hosts::reached(&t.opens, t.guest, t.v, owner, m);
+    let own = unless(reached, Refusal::Outside, few);
     let known = unless(1 <= owner, Refusal::Missing, own);
     unless(ranged(m, MAX_M, ticks, MAX_LENGTH), Refusal::Range, known)
 }

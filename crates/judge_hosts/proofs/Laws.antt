@@ -1,6 +1,7 @@
 -- What holds at a known kind.
 use Prim.Native.Nat.{ℕ}
 use mathlib.Core.Path.{_≡_}
+use mathlib.Core.List.{List}
 use mathlib.Core.Bool.{Bool, _&&_, _||_}
 use Rattle.plan.specs.declared.Kind.{Kind}
 use Rattle.plan.specs.Line.{Item, shape, written}
@@ -16,7 +17,7 @@ use Rattle.plan.specs.Rules.{within, follows, vcpuFits}
 use Rattle.plan.specs.Reading.{fault}
 use Rattle.judge_coded.specs.declared.Seen.{Seen}
 use Rattle.judge_coded.specs.KindLaws.{told}
-use Rattle.judge_coded.specs.Coded.{global, slot, ranged, reached, vcpuFault, lockFault, ruled, coded}
+use Rattle.judge_coded.specs.Coded.{global, slot, ranged, reachedBy, reached, vcpuFault, lockFault, ruled, coded}
 use Rattle.plan.specs.Line.{numsOf}
 
 -- the fault of a test, from its parts
@@ -25,10 +26,10 @@ test-told k e h n = rw (n, h, e)
 
 -- what a lock reaches, from its parts
 pub reach-told :
-    (t : Seen) (o m : ℕ) {s x : ℕ} {w : Bool} →
-    w ≡ within o 1 maxV → s ≡ slot m (t .guest) → x ≡ getD (t .opens) s 0 →
-    ((w && eqb o (t .v)) || (eqb o global && eqb x 1)) ≡ reached t o m
-reach-told t o m e h n = rw (n, h, e)
+    (ps : List ℕ) (g v o m : ℕ) {s x : ℕ} {w : Bool} →
+    w ≡ within o 1 maxV → s ≡ slot m g → x ≡ getD ps s 0 →
+    ((w && eqb o v) || (eqb o global && eqb x 1)) ≡ reachedBy ps g v o m
+reach-told ps g v o m e h n = rw (n, h, e)
 
 -- what is wrong with a line
 pub rule-told :

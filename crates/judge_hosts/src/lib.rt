@@ -1,9 +1,13 @@
-// What is wrong with a task on a VCPU, by what is declared and how many there are. What it means stands in specs/Coded of `judge_coded`.
+// What is wrong with a task on a VCPU, by what is declared and how many there are; and which mutexes it may lock. What it means stands in specs/Coded of `judge_coded`.
+use judge_coded::GLOBAL;
 use judge_coded::Seen;
+use judge_coded::slot;
 use plan::Fault;
 use plan::MAX_TASKS;
+use plan::MAX_V;
 use plan::Refusal;
 use plan::unless;
+use plan::within;
 ghost use mathlib.Core.Path.{_≡_};
 ghost use lib.ListN.{getD};
 ghost use Rattle.judge_coded.specs.Coded as coded;
@@ -21,6 +25,15 @@ pub fn at(s: &[u8], i: u64) -> u64
 {
     let k = i as usize;
     if k < s.len() { wide(s[k]) } else { 0 }
+}
+
+// May a task of VCPU v of this guest lock m: is it local to v, or a global one opened to the guest?
+pub fn reached(opens: &[u8], guest: u64, v: u64, owner: u64, m: u64) -> bool
+    ensures { λ r. ⌜ r ≡ coded.reachedBy (now (opens .entry)) guest v owner m ⌝ }
+{
+    let near = within(owner, 1, MAX_V) & (owner == v);
+    let open = at(opens, slot(m, guest));
+    near | ((owner == GLOBAL) & (open == 1))
 }
 
 // A task of VCPU v, by what is declared and how many there are.

@@ -27,3 +27,7 @@ decimal-last {n} {d} h k =
     let p : 10 ^ suc (n / 10) ≤ 10 ^ n = pow-le-pow-right (omega arith) (omega arith) in
     let e : decimal (n / 10) ≡ digits n (n / 10) = decimal-digits n (n / 10) (omega arith) (omega arith) in
     record { is = decimal-step n h ∙ rw (e, k) }
+
+-- two digits
+pub decimal-two : {n d q : ℕ} → 10 ≤ n → n < 100 → d ≡ 48 + n % 10 → q ≡ 48 + (n / 10) % 10 → Joins (decimal n) (q ∷ []) (d ∷ [])
+decimal-two {n} {d} {q} h l e k = let m : n / 10 < 10 = omega arith in record { is = decimal-last h e .is ∙ ap (λ x. x ++ (d ∷ [])) (decimal-only m k) }

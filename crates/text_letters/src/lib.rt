@@ -44,7 +44,20 @@ pub fn put(out: &mut [u8], w: &[u8]) -> usize
     i
 }
 
-// Writes n in decimal.
+// Writes n in decimal, digit after digit.
+fn put_digits(out: &mut [u8], n: u64) -> usize
+    requires { ⌜ length (decimal n) ≤ length (now out) ⌝ }
+    ensures { λ r. ⌜ Wrote (decimal n) (now (out .entry)) (now (out .exit)) r ⌝ }
+{
+    let d = digit(n);
+    if n < 10 {
+        return put_byte(out, d);
+    }
+    let k = put_digits(out, n / 10);
+    k + put_byte(&mut out[k..], d)
+}
+
+// Writes n in decimal: up to two digits at once.
 pub fn put_number(out: &mut [u8], n: u64) -> usize
     requires { ⌜ length (decimal n) ≤ length (now out) ⌝ }
     ensures { λ r. ⌜ Wrote (decimal n) (now (out .entry)) (now (out .exit)) r ⌝ }
@@ -53,8 +66,11 @@ pub fn put_number(out: &mut [u8], n: u64) -> usize
     if n < 10 {
         return put_byte(out, d);
     }
-    let k = put_number(out, n / 10);
-    k + put_byte(&mut out[k..], d)
+    if n < 100 {
+        let k = put_byte(out, digit(n / 10));
+        return k + put_byte(&mut out[k..], d);
+    }
+    put_digits(out, n)
 }
 
 // Writes a number, or the word that stands where it is lacking.

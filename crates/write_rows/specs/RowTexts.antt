@@ -22,7 +22,7 @@ use Rattle.text_letters.specs.WroteLaws.{joins}
 use Rattle.text_letters.specs.Tabbed.{rest}
 use Rattle.text_told.specs.Told.{Space, Told, told-nothing, space-less, space-then, told-then, told-room, told-as}
 use Rattle.write_lines.specs.Texts.{text-append, text-none, vcpu-text, open-text, guest-text, task-text, run-text, lock-text}
-use Rattle.write_rows.specs.Rows.{Rows, Vcpus, Mutexes, Opens, rowLines, ToldRows}
+use Rattle.write_rows.specs.Rows.{Rows, Vcpus, Mutexes, Opens, rowLines, taskTold, ToldRows}
 
 -- ROWS OF ONE LINE, by what is told
 pub vcpu-row :
@@ -72,17 +72,22 @@ guest-front true g is = refl
 guest-front false g is = refl
 
 pub task-lines :
-    (vs : List Vcpu) (t : List ℕ) (i : ℕ) {b : Bool} {g c : ℕ} → b ≡ begins vs t i → g ≡ hostOf vs t i → c ≡ cell t taskWidth i 4 →
-    Joins (textOf (taskLines vs t i)) (textOf (guestLine b g [])) (textOf (headLines t i []) ++ textOf (lined c (lockLines t i)))
-unfolding taskLines
-task-lines vs t i {b} {g} {c} e f h =
-    rw (sym e, sym f, sym h)
+    (b : Bool) (g : ℕ) (t : List ℕ) (i : ℕ) {c : ℕ} → c ≡ cell t taskWidth i 4 →
+    Joins (textOf (taskTold b g t i)) (textOf (guestLine b g [])) (textOf (headLines t i []) ++ textOf (lined c (lockLines t i)))
+task-lines b g t i {c} h =
+    rw (sym h)
     (record {
       is =
           ap textOf (guest-front b g (headLines t i (lined c (lockLines t i))))
           ∙ text-append (guestLine b g []) (headLines t i (lined c (lockLines t i)))
           ∙ ap (λ x. textOf (guestLine b g []) ++ x) (text-append (headLines t i []) (lined c (lockLines t i)));
     })
+
+-- a task's lines, from its guest and that of the section before it
+pub task-told :
+    (vs : List Vcpu) (t : List ℕ) (i : ℕ) {b : Bool} {g : ℕ} → b ≡ begins vs t i → g ≡ hostOf vs t i → textOf (taskLines vs t i) ≡ textOf (taskTold b g t i)
+unfolding taskLines
+task-told vs t i e f = rw (e, f)
 
 -- A LOOP OVER ROWS: before the first row, one row more, after the last
 module _ (f : ℕ → List Item) where

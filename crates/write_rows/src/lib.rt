@@ -1,7 +1,7 @@
 // The lines of a plan's rows, told one behind another: written where `on`, else only counted. Which lines a row has stands in specs/Feed of `given_test`.
-use given_tidy::begins;
+use given_tidy::begins_after;
 use given_tidy::cell;
-use given_tidy::host_of;
+use given_tidy::host_after;
 use plan_tables::FIRST_LOCK;
 use plan_tables::LOCK_WIDTH;
 use plan_tables::MUTEX_WIDTH;
@@ -19,7 +19,7 @@ ghost use Rattle.plan_tables.specs.Layout as layout;
 ghost use Rattle.given_tidy.specs.Tests.{mostRows, allTidy};
 ghost use Rattle.given_test.specs.Feed.{lined, lockLines, guestLine, headLines, taskLines};
 ghost use Rattle.text_told.specs.Told.{Space, Told};
-ghost use Rattle.write_rows.specs.Rows.{rowLines};
+ghost use Rattle.write_rows.specs.Rows.{rowLines, taskTold};
 
 // The tables whose rows have one line each.
 pub enum Rows {
@@ -120,15 +120,12 @@ fn head(on: bool, out: &mut [u8], n: usize, t: &[u64], i: usize) -> usize
 }
 
 // Tells the lines of task i, after its guest's where it begins a section.
-fn task(on: bool, out: &mut [u8], n: usize, vt: &[u64], c: usize, t: &[u64], i: usize) -> usize
-    requires { ⌜ (c ≤ mostRows) × (i ≤ mostRows) × (layout.cell (now t) layout.taskWidth i 4 ≤ maxLocks)
-        × Space on (textOf (taskLines (rows c (layout.vcpuRow (now vt))) (now t) i)) (now out) n ⌝ }
-    ensures { λ r. ⌜ Told on (textOf (taskLines (rows c (layout.vcpuRow (now (vt .entry)))) (now (t .entry)) i)) (now (out .entry)) (now (out .exit)) n r ⌝ }
+fn task(on: bool, out: &mut [u8], n: usize, begins: bool, guest: u64, t: &[u64], i: usize) -> usize
+    requires { ⌜ (i ≤ mostRows) × (layout.cell (now t) layout.taskWidth i 4 ≤ maxLocks) × Space on (textOf (taskTold begins guest (now t) i)) (now out) n ⌝ }
+    ensures { λ r. ⌜ Told on (textOf (taskTold begins guest (now (t .entry)) i)) (now (out .entry)) (now (out .exit)) n r ⌝ }
 {
-    let first = begins(vt, c, t, i);
-    let guest = host_of(vt, c, t, i);
     let count = cell(t, TASK_WIDTH, i, 4) as usize;
-    let k = guest_told(on, out, n, first, guest);
+    let k = guest_told(on, out, n, begins, guest);
     let l = head(on, out, k, t, i);
     locks(on, out, l, t, i, count)
 }
@@ -148,9 +145,13 @@ pub fn tasks_told(
     ensures { λ r. ⌜ Told on (textOf (lined m (taskLines (rows c (layout.vcpuRow (now (vt .entry)))) (now (t .entry))))) (now (out .entry)) (now (out .exit)) n r ⌝ }
 {
     let mut k = n;
+    let mut last = 0;
     let mut i = 0;
     while i < m {
-        k = task(on, out, k, vt, c, t, i);
+        let guest = host_after(vt, c, t, i, last);
+        let first = begins_after(i, guest, last);
+        k = task(on, out, k, first, guest, t, i);
+        last = guest;
         i += 1;
     }
     k

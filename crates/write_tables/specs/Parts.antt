@@ -1,11 +1,13 @@
 -- The parts of a plan's text, table by table, and what the test for 9 says of them.
 use Prim.Native.Nat.{ℕ, _+_, _≤_, _<_}
-use mathlib.Core.Path.{_≡_, refl, ap, sym, subst, _∙_}
-use mathlib.Core.List.{List, [], _∷_, _++_, append-assoc}
-use mathlib.Core.Bool.{Bool, true, false, _&&_}
+use mathlib.Core.Path.{_≡_, refl, ap, ap₂, sym, subst, _∙_}
+use mathlib.Core.List.{List, [], _∷_, _++_}
+use mathlib.Core.Bool.{Bool, true, false, _&&_, not}
 use native.Mathlib.Nat.{zero-add}
 use native.Mathlib.Omega.{arith}
-use lib.ListN.{length, take, drop}
+use lib.Dec.{leb}
+use lib.ListN.{length, drop}
+use borrow.Author.Tests.{le-leb, leb-true, leb-false, not-true, not-false}
 use Rattle.laws.specs.BoolLaws.{both-left, both-right}
 use Rattle.laws.specs.Bytes.{joined, ended}
 use Rattle.laws.specs.Rows.{rows}
@@ -23,7 +25,7 @@ use Rattle.plan_tables.specs.Given.{planIn, isGiven, roomy}
 use Rattle.given_tidy.specs.Tests.{few, Few, allTidy}
 use Rattle.given_tidy.specs.TestLaws.{few-exactly}
 use Rattle.given_test.specs.Feed.{lined, vcpuLines, mutexLines, openLines, taskLines}
-use Rattle.given_test.specs.Tests.{frontItems, rowItems, soundRows}
+use Rattle.given_test.specs.Tests.{rowItems, soundRows}
 use Rattle.given_test.specs.TestLaws.{given-tests}
 use Rattle.given_test.specs.ItemLaws.{row-items}
 use Rattle.text_letters.specs.Wrote.{Wrote, Joins}
@@ -31,9 +33,9 @@ use Rattle.text_letters.specs.WroteLaws.{joins}
 use Rattle.text_told.specs.At.{toldAt, told-off}
 use Rattle.text_told.specs.Told.{Space, Told}
 use Rattle.listing_lines.specs.declared.TextAnswer.the-variants.{Written, Refused}
-use Rattle.listing_lines.specs.Into.{textAnswer, textAfter}
+use Rattle.listing_lines.specs.Into.{hasRoom, textAnswer, textAfter}
 use Rattle.listing_lines.specs.IntoLaws.{into-room, into-none}
-use Rattle.write_asked.specs.Short.{text-short}
+use Rattle.write_asked.specs.Short.{mostText, text-short}
 use Rattle.write_lines.specs.Texts.{text-append}
 
 -- the first two lines, in bytes: `plan 1`, `policy p o`
@@ -143,17 +145,24 @@ told-wrote {x} {o} t = record { count = omega (arith, t .place); bytes = t .buff
 pub told-same : {x o p : List ℕ} {n : ℕ} → Told false x o p 0 n → p ≡ o
 told-same {x} {o} t = t .buffer ∙ told-off x o 0 refl
 
-module _ {x o p : List ℕ} {n : ℕ} (t : Told false x o p 0 n) {l : ℕ} (k : l ≡ length p) where
-  pub fits-counted : n ≤ l → length x ≤ length p
-  fits-counted h = omega (arith, t .place)
+-- WHETHER IT FITS: no plan has more bytes than `mostText`, or they are counted
+pub room-sure : (x o : List ℕ) {l : ℕ} → length x ≤ mostText → l ≡ length o → mostText ≤ l → true ≡ hasRoom x o
+room-sure x o h e k = sym (le-leb (length x) (length o) (omega arith))
 
-  pub short-counted : l < n → (Refused Room ≡ textAnswer x o) × (p ≡ textAfter x o)
-  short-counted h =
-      let e = told-same t in
-      let w = into-none x o (omega (arith, t .place, ap length e)) in
-      (w .0, e ∙ w .1)
+pub room-counted : {x o p : List ℕ} {n l : ℕ} → Told false x o p 0 n → l ≡ length p → (leb n l ≡ hasRoom x o) × (p ≡ o)
+room-counted t e =
+    let f = told-same t in
+    let n = t .place ∙ zero-add _ in
+    (ap₂ leb n (e ∙ ap length f), f)
 
-  pub whole-counted : n ≤ l → {q : List ℕ} {m : ℕ} → Told true x p q 0 m → (Written m ≡ textAnswer x o) × (q ≡ textAfter x o)
-  whole-counted h {q} {m} u =
-      let e = told-same t in
-      into-room x o (omega (arith, t .place, ap length e)) (subst (λ y. Wrote x y q m) e (told-wrote u))
+module _ (x : List ℕ) {o p : List ℕ} {b : Bool} (e : b ≡ hasRoom x o) (f : p ≡ o) where
+  pub none-told : not b ≡ true → (Refused Room ≡ textAnswer x o) × (p ≡ textAfter x o)
+  none-told h =
+      let w = into-none x o (let k = leb-false (length x) (length o) (sym e ∙ not-true b h) in omega (arith, k)) in
+      (w .0, f ∙ w .1)
+
+  pub room-told : not b ≡ false → length x ≤ length p
+  room-told h = rw f (leb-true (length x) (length o) (sym e ∙ not-false b h))
+
+  pub whole-told : not b ≡ false → {q : List ℕ} {m : ℕ} → Told true x p q 0 m → (Written m ≡ textAnswer x o) × (q ≡ textAfter x o)
+  whole-told h {q} {m} u = into-room x o (leb-true (length x) (length o) (sym e ∙ not-false b h)) (subst (λ y. Wrote x y q m) f (told-wrote u))
