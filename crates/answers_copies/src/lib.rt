@@ -32,5 +32,5 @@ pub fn copy_answer(xs: &mut [u64], e: usize, n: usize)
     let x = xs[e * 3];
     let y = xs[e * 3 + 1];
     let z = xs[e * 3 + 2];
-    search::push_row(xs, n, x, y, z);
+    search_rows::push_row(xs, n, x, y, z);
 }

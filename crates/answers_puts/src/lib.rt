@@ -48,5 +48,5 @@ pub fn put_task(xs: &mut [u64], n: usize, a: TaskAnswer)
     let x = task_kind(a);
     let y = task_ticks(a);
     let z = task_rounds(a);
-    search::push_row(xs, n, x, y, z);
+    search_rows::push_row(xs, n, x, y, z);
 }

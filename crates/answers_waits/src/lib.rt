@@ -54,7 +54,7 @@ fn put_answer(xs: &mut [u64], n: usize, a: Answer)
     let x = kind_of(a);
     let y = ticks_of(a);
     let z = rounds_of(a);
-    search::push_row(xs, n, x, y, z);
+    search_rows::push_row(xs, n, x, y, z);
 }
 
 // Fills the answers of the VCPUs.
@@ -126,7 +126,7 @@ fn put_wait(
     let i = k / 8;
     let j = k % 8;
     if !is_section(r, vt, mt, ts, i, j) {
-        search::push_row(wa, k, 0, 0, 0);
+        search_rows::push_row(wa, k, 0, 0, 0);
         return;
     }
     let e = answers_copies::same_before(r, vt, mt, ts, i, j);

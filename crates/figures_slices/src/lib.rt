@@ -11,6 +11,6 @@ pub fn add_cost(rows: &mut [u64], n: usize, period: u64, cost: u64) -> usize
     if cost == 0 {
         return n;
     }
-    search::push_row(rows, n, 0, period, cost);
+    search_rows::push_row(rows, n, 0, period, cost);
     n + 1
 }

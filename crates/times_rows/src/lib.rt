@@ -48,5 +48,5 @@ pub fn push_vcpu(
 {
     let budget = figures_cells::vcpu_cell(r, vt, mt, ts, b, 3);
     let period = figures_cells::vcpu_cell(r, vt, mt, ts, b, 4);
-    search::push_row(rows, n, jitter_of(d, budget, period), period, vf[b * 3 + 1]);
+    search_rows::push_row(rows, n, jitter_of(d, budget, period), period, vf[b * 3 + 1]);
 }

@@ -94,7 +94,7 @@ fn push_task(
     ensures { λ out. ⌜ now (rows .exit) ≡ pushed (now (rows .entry)) n (preemptRow (systemIn r (now (vt .entry)) (now (mt .entry)) (now (ts .entry))) gap (taskRow (now (ts .entry)) h)) ⌝ }
 {
     let period = figures_cells::task_cell(r, vt, mt, ts, h, 2);
-    search::push_row(rows, n, gap + ws[h], period, tf[h * 5 + 3]);
+    search_rows::push_row(rows, n, gap + ws[h], period, tf[h * 5 + 3]);
 }
 
 // Writes the rows of the higher tasks of task i's VCPU, which has this gap, and says how many.
@@ -148,7 +148,7 @@ fn task_rows(
     let period = figures_cells::vcpu_cell(r, vt, mt, ts, a, 4);
     let gap = period - budget;
     let n = higher_rows(r, vt, mt, ts, tf, ws, fs, rows, gap, i);
-    search::push_row(rows, n, budget, period, gap);
+    search_rows::push_row(rows, n, budget, period, gap);
     n + 1
 }
 
@@ -187,7 +187,7 @@ fn task_search(
     let base = task_base(r, vt, mt, ts, tf, ws, fs, i);
     let n = task_rows(r, vt, mt, ts, tf, ws, fs, rows, i);
     let limit = figures_cells::task_cell(r, vt, mt, ts, i, 2);
-    search::least(base, tf[i * 5 + 3], limit, rows, n)
+    search_least::least(base, tf[i * 5 + 3], limit, rows, n)
 }
 
 // The answer of task i.

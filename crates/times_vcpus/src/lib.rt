@@ -247,7 +247,7 @@ pub fn vcpu_answer(
     let base = vcpu_base(r, vt, mt, ts, tf, vf, d, a);
     let n = task_rows(r, vt, mt, ts, tf, rows, d, a);
     let e = vcpu_rows(r, vt, mt, ts, vf, rows, d, a, n);
-    search::least(
+    search_least::least(
         base,
         vf[a * 3 + 1],
         figures_cells::vcpu_cell(r, vt, mt, ts, a, 4),

@@ -189,5 +189,5 @@ pub fn wait_answer(
     let start = wait_start(r, vt, mt, ts, rf, v, m);
     let costs = wait_costs(r, vt, mt, ts, rf, v, m);
     let n = wait_rows(r, vt, mt, ts, rf, rows, v, m);
-    search::least(start + costs, start, limit, rows, n)
+    search_least::least(start + costs, start, limit, rows, n)
 }

@@ -1,12 +1,12 @@
--- `search::div_up` meets its contract.
+-- `search_rows::div_up` meets its contract.
 use Prim.Native.Nat.{_-_}
 use mathlib.Core.Path.{sym}
 use native.Mathlib.Omega.{arith}
 use native.Mathlib.Nat.{div-le-self}
 use borrow.Author.Needs.{needs}
 use Rattle.laws.specs.SumLaws.{up-zero, up-code}
-use Rattle.search.proofs.div_up.Statement.{statement}
-use Rattle.search.proofs.div_up.Tie as tie
+use Rattle.search_rows.proofs.div_up.Statement.{statement}
+use Rattle.search_rows.proofs.div_up.Tie as tie
 
 pub div-up-spec : {M : Type 1} → statement M
 div-up-spec =

@@ -1,11 +1,11 @@
--- `search::push_row` meets its contract.
+-- `search_rows::push_row` meets its contract.
 use mathlib.Core.Path.{refl}
 use native.Mathlib.Omega.{arith}
 use borrow.Author.Needs.{needs}
 use lib.ListN.{length-set}
 use Rattle.search.specs.Row.{pushed}
-use Rattle.search.proofs.push_row.Statement.{statement}
-use Rattle.search.proofs.push_row.Tie as tie
+use Rattle.search_rows.proofs.push_row.Statement.{statement}
+use Rattle.search_rows.proofs.push_row.Tie as tie
 
 returns : tie.Need-returns
 unfolding pushed

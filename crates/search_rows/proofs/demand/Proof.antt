@@ -1,13 +1,13 @@
--- `search::demand` meets its contract: the total is the capped sum of the rows so far.
+-- `search_rows::demand` meets its contract: the total is the capped sum of the rows so far.
 use Prim.Native.Nat.{_-_}
 use native.Mathlib.Omega.{arith}
 use borrow.Author.Needs.{needs}
 use Rattle.laws.specs.Rows.{Capped}
 use Rattle.laws.specs.RowLaws.{each-row, capped-none, capped-all}
 use Rattle.search.specs.Row.{cap, Sound, rowIn, share, rowsDemand}
 use Rattle.search.specs.TableLaws.{capped-below, capped-over}
-use Rattle.search.proofs.demand.Statement.{statement}
-use Rattle.search.proofs.demand.Tie as tie
+use Rattle.search_rows.proofs.demand.Statement.{statement}
+use Rattle.search_rows.proofs.demand.Tie as tie
 
 abbrev Inv-loop : tie.InvT-loop
 Inv-loop base rows n t total₀ k₀ total k = Capped (share t) (rowIn rows) base cap n total k

@@ -1,10 +1,10 @@
--- `search::share_of` meets its contract.
+-- `search_rows::share_of` meets its contract.
 use native.Mathlib.Omega.{arith}
 use borrow.Author.Needs.{needs}
 use Rattle.search.specs.Row.{rowIn}
 use Rattle.search.specs.TableLaws.{share-capped, share-free}
-use Rattle.search.proofs.share_of.Statement.{statement}
-use Rattle.search.proofs.share_of.Tie as tie
+use Rattle.search_rows.proofs.share_of.Statement.{statement}
+use Rattle.search_rows.proofs.share_of.Tie as tie
 
 free : tie.Need-returns
 unfolding rowIn

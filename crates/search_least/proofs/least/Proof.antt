@@ -1,11 +1,11 @@
--- `search::least` meets its contract: its loop is a trace of the recurrence.
+-- `search_least::least` meets its contract: its loop is a trace of the recurrence.
 use Prim.Native.Nat.{_+_, _-_}
 use native.Mathlib.Omega.{arith}
 use borrow.Author.Needs.{needs}
 use Rattle.search.specs.Row.{rowsIn, rowsDemand, rows-demand}
 use Rattle.search.specs.SearchLaws.{Trace, trace-start, trace-grows, trace-next, solve-fits, solve-late}
-use Rattle.search.proofs.least.Statement.{statement}
-use Rattle.search.proofs.least.Tie as tie
+use Rattle.search_least.proofs.least.Statement.{statement}
+use Rattle.search_least.proofs.least.Tie as tie
 
 abbrev Inv-loop : tie.InvT-loop
 Inv-loop base start limit rows n x₀ rounds₀ x rounds = Trace (rowsDemand base (rowsIn rows n)) start limit rounds x
