@@ -1,26 +1,16 @@
 -- The field of a refused item, from its parts.
 use Prim.Native.Nat.{ℕ}
 use mathlib.Core.Path.{_≡_, refl, ap, _∙_}
-use mathlib.Core.Bool.{Bool, cond}
+use mathlib.Core.Bool.{Bool}
 use lib.Dec.{eqb}
 use lib.ListN.{getD}
 use Rattle.plan.specs.declared.Kind.{Kind}
 use Rattle.plan.specs.declared.Kind.the-variants.{PlanLine, PolicyPO, PolicyPN, PolicyDO, PolicyDN, VcpuLine, MutexG, MutexL, OpenLine, GuestLine, TaskLine, RunLine, LockLine, EndLine, AskLine, FreeLine, UseLine, TopLine, ShowLine}
 use Rattle.plan.specs.declared.Refusal.{Refusal}
 use Rattle.plan.specs.Line.{headOr, shape, size, numsOf}
-use Rattle.plan.specs.Fields.{firstOut, ranges, missing}
+use Rattle.plan.specs.Fields.{missing}
 use Rattle.judge_coded.specs.declared.Seen.{Seen}
-use Rattle.judge_coded.specs.KindLaws.{told}
 use Rattle.judge_coded.specs.Coded.{global}
-
--- a field's test, and the fields right of it
-pub out-told : (k : ℕ) {a b : Bool} {x y r : ℕ} → a ≡ b → x ≡ y → r ≡ cond a x k → r ≡ cond b y k
-out-told k e h n = rw (n, h, e)
-
--- Range: by the kind
-pub range-told :
-    (a b c d e : ℕ) {k q : Kind} {r : ℕ} → k ≡ q → r ≡ firstOut 1 (shape q) (ranges q (numsOf q a b c d e)) → r ≡ firstOut 1 (shape k) (ranges k (numsOf k a b c d e))
-range-told a b c d e g h = told (λ x. firstOut 1 (shape x) (ranges x (numsOf x a b c d e))) g h
 
 -- Missing: the mutex of `open` is its first number
 abbrev Firsts : ℕ → ℕ → ℕ → ℕ → ℕ → Seen → Kind → Type 0

@@ -2,9 +2,9 @@ use mathlib.Core.Path.{refl}
 use borrow.Author.Needs.{needs}
 use Rattle.plan.specs.Line.{shape, size, numsOf}
 use Rattle.plan.specs.Fields.{firstOut, ranges}
-use Rattle.judge_fields.proofs.Laws.{out-told, range-told}
-use Rattle.judge_fields.proofs.range_of.Statement.{statement}
-use Rattle.judge_fields.proofs.range_of.Tie as tie
+use Rattle.judge_ranges.proofs.Laws.{out-told, range-told}
+use Rattle.judge_ranges.proofs.range_of.Statement.{statement}
+use Rattle.judge_ranges.proofs.range_of.Tie as tie
 
 pub range-of-spec : {M : Type 1} → statement M
 unfolding firstOut ranges numsOf size shape

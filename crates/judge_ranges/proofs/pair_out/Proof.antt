@@ -1,8 +1,8 @@
 use mathlib.Core.Path.{refl}
 use borrow.Author.Needs.{needs}
-use Rattle.judge_fields.proofs.Laws.{out-told}
-use Rattle.judge_fields.proofs.pair_out.Statement.{statement}
-use Rattle.judge_fields.proofs.pair_out.Tie as tie
+use Rattle.judge_ranges.proofs.Laws.{out-told}
+use Rattle.judge_ranges.proofs.pair_out.Statement.{statement}
+use Rattle.judge_ranges.proofs.pair_out.Tie as tie
 
 returns : tie.Need-returns
 returns c =
