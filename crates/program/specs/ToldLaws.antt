@@ -1,30 +1,21 @@
 -- Laws of Told, over the bits by which code holds a number with a sign.
-use Prim.Native.Nat.{ℕ, _+_, _-_, _^_, _≤_, _<_, suc, zero-le}
+use Prim.Native.Nat.{ℕ, _+_, _-_, _≤_, _<_, zero-le}
 use native.Mathlib.Omega.{arith}
 use mathlib.Core.Path.{_≡_, refl, sym, ap, subst, _∙_}
-use mathlib.Core.Bool.{true, false, true≢false, false≢true}
+use mathlib.Core.Bool.{true, false, true≢false}
 use mathlib.Core.List.{List}
-use lib.IntN.{ℤ, pos, negsuc, natAbs}
-use lib.Signed.{ltZ, nonNeg}
-use lib.Dec.{T, eqb}
+use lib.IntN.{ℤ, pos, negsuc}
+use lib.Signed.{ltZ}
 use lib.ListN.{length, take, drop, length-take, length-drop}
 use lib.Seq.{length-take-le}
-use mir.Syntax.{w32, w64}
+use mir.Syntax.{w64}
 use mir.Val.{SFits, toZ, ofZ}
 use mir.Facts.{toZ-ofZ}
-use borrow.Author.Tests.{ltb-true, ltb-false, ne-eqb}
+use borrow.Author.Tests.{ltb-true}
 use Rattle.libc.specs.Io.{Moved}
 use Rattle.io.specs.Counts.{Counts}
-use Rattle.program.specs.Told.{Input, Bytes, Unread, moreBytes, inputAfter, Handed, isError}
-
--- the bits of an error are a number's exactly when it is that error
-pub error-bits : (n : ℕ) → n < 2 ^ 31 → (e : ℤ) → SFits w32 e → eqb (ofZ w32 e) n ≡ isError n e
-error-bits n h (pos k) f = refl
-error-bits n h (negsuc k) f = ne-eqb (2 ^ 32 - suc k) n (λ (e : 2 ^ 32 - suc k ≡ n). let s : k < 2 ^ 31 = f .sfits in omega arith)
-
--- what holds of an answer, read back from its bits, holds of the answer
-pub as-said : (P : ℤ → Type 0) (z : ℤ) → SFits w64 z → P (toZ w64 (ofZ w64 z)) → P z
-as-said P z f p = subst P (toZ-ofZ f) p
+use Rattle.program_ends.specs.Ends.{moreBytes}
+use Rattle.program.specs.Told.{Input, Bytes, Unread, inputAfter, Handed}
 
 pub after-below : (n : ℕ) (z : ℤ) → ltZ z (pos 0) ≡ true → Unread ≡ inputAfter z n
 after-below n (pos k) e = absurd (let l : k < 0 = ltb-true k 0 e in omega arith)
@@ -33,18 +24,6 @@ after-below n (negsuc k) e = refl
 pub after-others : (n : ℕ) (z : ℤ) → ltZ z (pos 0) ≡ false → Bytes n ≡ inputAfter z n
 after-others n (pos k) e = refl
 after-others n (negsuc k) e = absurd (true≢false e)
-
-pub above-counts : (z : ℤ) → ltZ (pos 0) z ≡ true → T (nonNeg z)
-above-counts (pos k) e = tt
-above-counts (negsuc k) e = absurd (false≢true e)
-
-pub more-above : (z : ℤ) → ltZ (pos 0) z ≡ true → natAbs z ≡ moreBytes z
-more-above (pos k) e = refl
-more-above (negsuc k) e = absurd (false≢true e)
-
-pub more-others : (z : ℤ) → ltZ (pos 0) z ≡ false → 0 ≡ moreBytes z
-more-others (pos k) e = let l : k ≤ 0 = ltb-false 0 k e in omega arith
-more-others (negsuc k) e = refl
 
 pub counted : (n : ℕ) (xs : List ℕ) → n ≤ length xs → Counts n xs
 counted n xs h = (h, sym (length-take-le n xs h))

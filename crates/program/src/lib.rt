@@ -1,21 +1,17 @@
 // What a program reads and writes. Where that fails it says what and why on standard error, where it says nothing else; only of a reader that has closed the pipe it says nothing, since the system's signal says that.
+use program_ends::is_absent;
+use program_ends::is_closed;
+use program_ends::more;
 ghost use mathlib.Core.Path.{_≡_};
 ghost use Prim.Native.Nat.{_-_, _≤_};
 ghost use lib.ListN.{length, take};
 ghost use Rattle.libc.specs.Io.{Moved};
-ghost use Rattle.program.specs.Told.{Handed, inputAfter, moreBytes, isAbsent, isClosed};
+ghost use Rattle.program.specs.Told.{Handed, inputAfter};
 
 // An input: so many bytes at the start of a buffer, or none, since it cannot be read.
 pub enum Input {
     Bytes(usize),
     Unread,
-}
-
-// The bytes that a read has put, by its answer.
-fn more(answer: isize) -> usize
-    ensures { λ r. ⌜ r ≡ moreBytes answer ⌝ }
-{
-    if answer > 0 { answer as usize } else { 0 }
 }
 
 // What an input is after its last read.
@@ -26,20 +22,6 @@ fn input_after(answer: isize, done: usize) -> Input
         return Input::Unread;
     }
     Input::Bytes(done)
-}
-
-// Whether a file cannot be opened because there is none of that name.
-fn is_absent(error: i32) -> bool
-    ensures { λ r. ⌜ r ≡ isAbsent error ⌝ }
-{
-    error == libc::ENOENT
-}
-
-// Whether an output cannot be written because its reader has closed it.
-fn is_closed(error: i32) -> bool
-    ensures { λ r. ⌜ r ≡ isClosed error ⌝ }
-{
-    error == libc::EPIPE
 }
 
 // One read, behind what was read before, which it leaves as it is.

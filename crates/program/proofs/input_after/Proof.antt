@@ -3,7 +3,8 @@ use mathlib.Core.Bool.{true, false}
 use mathlib.Core.Path.{_≡_}
 use lib.IntN.{pos}
 use lib.Signed.{ltZ}
-use Rattle.program.specs.ToldLaws.{as-said, after-below, after-others}
+use Rattle.program_ends.specs.EndLaws.{as-said}
+use Rattle.program.specs.ToldLaws.{after-below, after-others}
 use Rattle.program.proofs.input_after.Statement.{statement}
 use Rattle.program.proofs.input_after.Tie as tie
 

@@ -1,4 +1,4 @@
--- `program::more` meets its contract. Assumes nothing.
+-- `program_ends::more` meets its contract. Assumes nothing.
 use mathlib.Core.Bool.{true, false}
 use mathlib.Core.Path.{_≡_, sym, ap, subst, _∙_}
 use lib.IntN.{ℤ, pos, natAbs}
@@ -7,9 +7,9 @@ use lib.Dec.{T}
 use mir.Syntax.{w64}
 use mir.Val.{SFits, Fits, toZ, ofZ}
 use mir.Facts.{toZ-ofZ, fits-natAbs}
-use Rattle.program.specs.ToldLaws.{as-said, above-counts, more-above, more-others}
-use Rattle.program.proofs.more.Statement.{statement}
-use Rattle.program.proofs.more.Tie as tie
+use Rattle.program_ends.specs.EndLaws.{as-said, above-counts, more-above, more-others}
+use Rattle.program_ends.proofs.more.Statement.{statement}
+use Rattle.program_ends.proofs.more.Tie as tie
 
 -- an answer above 0 is a number of bytes
 castable : (z : ℤ) → SFits w64 z → ltZ (pos 0) (toZ w64 (ofZ w64 z)) ≡ true → T (nonNeg (toZ w64 (ofZ w64 z))) × Fits w64 (natAbs (toZ w64 (ofZ w64 z)))

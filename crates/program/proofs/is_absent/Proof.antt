@@ -1,8 +1,0 @@
--- `program::is_absent` meets its contract. Assumes nothing.
-use native.Mathlib.Omega.{arith}
-use Rattle.program.specs.ToldLaws.{error-bits}
-use Rattle.program.proofs.is_absent.Statement.{statement}
-use Rattle.program.proofs.is_absent.Tie as tie
-
-pub is-absent-spec : {M : Type 1} → statement M
-is-absent-spec = tie.close (tie.spec (λ c. error-bits 2 (omega arith) _ (c .fits .error)))
