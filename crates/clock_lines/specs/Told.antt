@@ -1,5 +1,5 @@
 -- A text told into a buffer behind n bytes where `on`, else not at all, and the place behind it: n itself where nothing is told.
-use Prim.Native.Nat.{ℕ, _+_, _-_, _≤_}
+use Prim.Native.Nat.{ℕ, _+_, _-_}
 use mathlib.Core.Path.{_≡_, refl, ap, sym, _∙_}
 use mathlib.Core.List.{List, [], _++_}
 use mathlib.Core.Bool.{Bool, true, false, false≢true}

@@ -1,6 +1,6 @@
 -- What the judge asks of the rows of tasks, row by row: its tests of their lines (specs/Coded of `judge_coded`), from what it has seen before the first of them.
 -- That a number has few digits is not asked: each is in its range.
-use Prim.Native.Nat.{ℕ, zero, suc, _+_, _*_, _-_}
+use Prim.Native.Nat.{ℕ, _+_, _*_, _-_}
 use mathlib.Core.List.{List}
 use mathlib.Core.Bool.{Bool, cond, _&&_, _||_, not}
 use lib.Dec.{eqb, leb, ltb}

@@ -1,6 +1,6 @@
 -- No line before the tasks begins a section or counts a task.
 use Prim.Native.Nat.{ℕ, zero, suc}
-use mathlib.Core.Path.{_≡_, refl, sym}
+use mathlib.Core.Path.{_≡_, refl}
 use mathlib.Core.List.{List, [], _∷_}
 use native.Mathlib.Omega.{arith}
 use Rattle.plan.specs.declared.Policy.{Policy}

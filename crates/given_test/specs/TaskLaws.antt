@@ -27,7 +27,7 @@ use Rattle.judge_coded.specs.declared.Seen.{Seen}
 use Rattle.judge_coded.specs.Coded.{coded, ranged, reached, bump, placed, seenBy, ruled, guestFault, hostFault, taskFault, runFault, lockFault}
 use Rattle.plan_tables.specs.Layout.{taskWidth, cell, lockRow}
 use Rattle.plan_tables.specs.Given.{isClear}
-use Rattle.given_tidy.specs.Hosts.{hostOf, begins, lastAt}
+use Rattle.given_tidy.specs.Hosts.{hostOf, begins}
 use Rattle.given_tasks.specs.Clear.{runClear, lockClear, guestClear, headClear, lockAt, headAt, taskClear, taskAt, tasksClear}
 use Rattle.given_test.specs.Feed.{Run, feed, feeds, passing, Bare, lined, lockLines, guestLine, headLines, taskLines}
 use Rattle.given_test.specs.FeedLaws.{feeds-append}

@@ -7,7 +7,7 @@ use Rattle.plan.specs.declared.Kind.{Kind}
 use Rattle.plan.specs.Line.{Item, shape, written}
 use Rattle.plan.specs.declared.Fault.{Fault}
 use Rattle.plan.specs.declared.Fault.the-variants.{Clear}
-use Rattle.plan.specs.Limits.{maxV, maxGuest, maxCore, maxPeriod, maxM, maxLength, maxLocks}
+use Rattle.plan.specs.Limits.{maxV, maxM, maxLength, maxLocks}
 use lib.Dec.{eqb, leb, ltb}
 use lib.ListN.{getD}
 use Rattle.plan.specs.declared.Refusal.{Refusal}

@@ -2,7 +2,7 @@
 use Prim.Native.Nat.{ℕ, zero, suc, _+_, _*_, _≤_, _<_}
 use mathlib.Core.Path.{_≡_, refl, ap, sym, _∙_}
 use mathlib.Core.List.{List, [], _∷_, _++_}
-use mathlib.Core.Bool.{Bool, true, false, _&&_, false≢true}
+use mathlib.Core.Bool.{Bool, true, false, false≢true}
 use native.Mathlib.Nat.{suc-mul, zero-mul}
 use native.Mathlib.Omega.{arith}
 use borrow.Author.Tests.{leb-true, ltb-true}
@@ -10,7 +10,6 @@ use lib.Dec.{leb, ltb}
 use lib.ListN.{length, length-append}
 use Rattle.laws.specs.BoolLaws.{both-left, both-right}
 use Rattle.laws.specs.Bytes.{joined, ended}
-use Rattle.laws.specs.Decimal.{decimal}
 use Rattle.laws.specs.DecimalLaws.{decimal-length}
 use Rattle.laws.specs.Sums.{all}
 use Rattle.laws.specs.Rows.{rows}

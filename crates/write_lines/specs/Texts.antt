@@ -2,11 +2,11 @@
 use Prim.Native.Nat.{ℕ, zero, suc}
 use mathlib.Core.Path.{_≡_, refl, ap, sym, _∙_}
 use mathlib.Core.List.{List, [], _∷_, _++_, append-assoc}
-use Rattle.laws.specs.Bytes.{joined, ended}
+use Rattle.laws.specs.Bytes.{ended}
 use Rattle.laws.specs.Decimal.{decimal}
-use Rattle.plan.specs.Limits.{tab, lf}
-use Rattle.plan.specs.declared.Kind.the-variants.{GuestLine, TaskLine, LockLine, MutexL}
-use Rattle.plan.specs.Line.{Item, shape, fieldsOf, lineOf, wVcpu, wMutex, wG, wL, wOpen, wGuest, wTask, wRun, wLock, wEnd}
+use Rattle.plan.specs.Limits.{lf}
+use Rattle.plan.specs.declared.Kind.the-variants.{GuestLine, TaskLine, LockLine}
+use Rattle.plan.specs.Line.{Item, shape, fieldsOf, lineOf, wVcpu, wMutex, wG, wL, wOpen, wGuest, wTask, wRun, wLock}
 use Rattle.plan.specs.Plan.{Vcpu, Open}
 use Rattle.plan.specs.Text.{item, vcpuItem, ownedItem, openItem, runItem, linesOf, textOf}
 use Rattle.plan_tables.specs.Layout.{ownerOf}

@@ -3,7 +3,7 @@ use borrow.Author.Needs.{needs}
 use mathlib.Core.Path.{ap}
 use native.Mathlib.Omega.{arith}
 use lib.ListN.{length}
-use Rattle.text_letters.specs.WroteLaws.{wrote-as, first-fits, ends, rest-fits, both-wrote, both-fit}
+use Rattle.text_letters.specs.WroteLaws.{wrote-as, first-fits, ends, rest-fits, both-wrote}
 use Rattle.text_letters.specs.DigitLaws.{decimal-only, decimal-two}
 use Rattle.text_letters.proofs.put_number.Statement.{statement}
 use Rattle.text_letters.proofs.put_number.Tie as tie

@@ -1,6 +1,6 @@
 -- `write_rows::tasks_told` meets its contract.
 use Prim.Native.Nat.{_-_}
-use mathlib.Core.Path.{_≡_, refl, sym}
+use mathlib.Core.Path.{_≡_, refl}
 use borrow.Author.Needs.{needs}
 use Rattle.laws.specs.Rows.{rows}
 use Rattle.plan_tables.specs.Layout.{vcpuRow}
