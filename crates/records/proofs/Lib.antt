@@ -1,4 +1,3 @@
 pub mod Kit
 pub mod Lent
 pub mod Face
-pub mod LentTasks

@@ -51,7 +51,7 @@ pub fn read_plan(
     let mut rows = records::no_rows();
     let a = read_in(src, vt, mt, ot, &mut rows, tasks.len());
     let n = count_of(a);
-    records::save(tasks, &rows, n);
+    records_saved::save(tasks, &rows, n);
     a
 }
 
@@ -72,6 +72,6 @@ pub fn read_rows(
 {
     let a = read_lines::read_lines(src, vt, mt, ot, rows);
     let n = count_of(a);
-    records::all_kept(rows, n);
+    records_saved::all_kept(rows, n);
     a
 }

@@ -28,10 +28,10 @@ use Rattle.records_read.proofs.count_of as count
 use Rattle.records_read.proofs.count_of.Symbol as count-def
 use Rattle.records_read.proofs.count_of.Symbol.{name as #records-read·count-of}
 use Rattle.records_read.proofs.count_of.Met as count-thm
-use Rattle.records.proofs.save as save
-use Rattle.records.proofs.save.Symbol as save-def
-use Rattle.records.proofs.save.Symbol.{name as #records·save}
-use Rattle.records.proofs.save.Met as save-thm
+use Rattle.records_saved.proofs.save as save
+use Rattle.records_saved.proofs.save.Symbol as save-def
+use Rattle.records_saved.proofs.save.Symbol.{name as #records-saved·save}
+use Rattle.records_saved.proofs.save.Met as save-thm
 use Rattle.records_read.proofs.read_plan.Key.{name as #records-read·read-plan}
 use Rattle.records_read.proofs.read_plan as f
 use Rattle.records_read.proofs.read_plan.Statement as stated
@@ -93,7 +93,7 @@ module _ {M : Type 1} (𝓤 : URA M) (H : Heap 𝓤) (A : Atoms 𝓤) (W : Given
       goes-save : (n ≤ 64) × (n ≤ length ks) → ent 𝓤 (⋆ 𝓤 H A ((‵ (flft κ₄ q₄) ⊛ ‵ (flft α fullShare) ⊛ ‵ ftrue) ∷ ‵ (fsep Own-tasks (fsep (Shr α l γ ys) (fsep (usize .own n (n-val ∷ [])) ftrue))) ∷ [])) (Save 𝓤 H A mem run .pre to-save)
       goes-save h = qed W ((‵ (flft κ₄ q₄) ⊛ ‵ (flft α fullShare) ⊛ ‵ ftrue) ∷ ‵ (fsep Own-tasks (fsep (Shr α l γ ys) (fsep (usize .own n (n-val ∷ [])) ftrue))) ∷ []) ∵ says ! h $ frame ! $ done !
 
-  module _ (C : Calls 𝓤 H) (Λ : Loops 𝓤 H) (fm : FmC 𝓤 H (W .laws) C) (k-none : Triple 𝓤 (C #records·no-rows) (None 𝓤 H A mem run)) (k-reads : Triple 𝓤 (C #records-read·read-in) (Reads 𝓤 H A mem run)) (k-count : Triple 𝓤 (C #records-read·count-of) (Count 𝓤 H A mem run)) (k-save : Triple 𝓤 (C #records·save) (Save 𝓤 H A mem run)) where
+  module _ (C : Calls 𝓤 H) (Λ : Loops 𝓤 H) (fm : FmC 𝓤 H (W .laws) C) (k-none : Triple 𝓤 (C #records·no-rows) (None 𝓤 H A mem run)) (k-reads : Triple 𝓤 (C #records-read·read-in) (Reads 𝓤 H A mem run)) (k-count : Triple 𝓤 (C #records-read·count-of) (Count 𝓤 H A mem run)) (k-save : Triple 𝓤 (C #records-saved·save) (Save 𝓤 H A mem run)) where
     walk : ent 𝓤 (onEntry 𝓤 H A f.signature κs (q₀, (q₁, (q₂, (q₃, (q₄, tt))))) (src, (vt, (mt, (ot, (tasks, tt))))) at) (WpFn 𝓤 H C Λ code.function (val src ∷ val vt ∷ val mt ∷ val ot ∷ tasks-val ∷ []) Post)
     walk =
         qed W ((‵ (flft κ₀ q₀) ⊛ ‵ (flft κ₁ q₁) ⊛ ‵ (flft κ₂ q₂) ⊛ ‵ (flft κ₃ q₃) ⊛ ‵ (flft κ₄ q₄) ⊛ ‵ ftrue) ∷ ‵ (owns (ShrSlice (named 0) κ₀ u8 ∷ MutSlice (named 1) κ₁ u64 ∷ MutSlice (named 2) κ₂ u64 ∷ MutSlice (named 3) κ₃ u64 ∷ MutSlice (named 4) κ₄ T.the-row ∷ []) (src, (vt, (mt, (ot, (tasks, tt))))) at) ∷ []) ∵ enter ! C Λ code.function (val src ∷ val vt ∷ val mt ∷ val ot ∷ tasks-val ∷ []) _ $
@@ -163,13 +163,13 @@ module _ {M : Type 1} (𝓤 : URA M) (H : Heap 𝓤) (A : Atoms 𝓤) (W : Given
         move ! (5 ∷ 4 ∷ 3 ∷ 2 ∷ 0 ∷ 9 ∷ 8 ∷ 7 ∷ 6 ∷ 1 ∷ []) $ by ! (exits a w₁ is₁ (zs .1 .0) (zs .1 .1 .0) (zs .1 .1 .1 .0) (us .0) (read-all (src .now) (vt .now) (mt .now) (ot .now) ks a (zs .1 .0) (zs .1 .1 .0) (zs .1 .1 .1 .0) (zs .1 .1 .1 .1 .0) e₁ n e₂ (us .0) e₃) lv lm lo lz))))))))))))))))))))))))))))))))))))))))))))))))))))
 
 module _ {M : Type 1} (𝓤 : URA M) (H : Heap 𝓤) (A : Atoms 𝓤) (W : Given 𝓤 H A) (mem : Memory → SProp 𝓤) (run : Routine → Fun 𝓤) where
-  read-plan-walks : (C : Calls 𝓤 H) (Λ : Loops 𝓤 H) → FmC 𝓤 H (W .laws) C → Triple 𝓤 (C #records·no-rows) (None 𝓤 H A mem run) → Triple 𝓤 (C #records-read·read-in) (Reads 𝓤 H A mem run) → Triple 𝓤 (C #records-read·count-of) (Count 𝓤 H A mem run) → Triple 𝓤 (C #records·save) (Save 𝓤 H A mem run)
+  read-plan-walks : (C : Calls 𝓤 H) (Λ : Loops 𝓤 H) → FmC 𝓤 H (W .laws) C → Triple 𝓤 (C #records·no-rows) (None 𝓤 H A mem run) → Triple 𝓤 (C #records-read·read-in) (Reads 𝓤 H A mem run) → Triple 𝓤 (C #records-read·count-of) (Count 𝓤 H A mem run) → Triple 𝓤 (C #records-saved·save) (Save 𝓤 H A mem run)
       → Walks 𝓤 H A f.ended stayed (WpFn 𝓤 H C Λ code.function) (f.clauses 𝓤 H A mem run)
   read-plan-walks C Λ fm kn kr kc ks =
       walked 𝓤 H A f.ended stayed (f.clauses 𝓤 H A mem run) (WpFn 𝓤 H C Λ code.function) (λ κs. (slice-vals, (slice-vals, (slice-vals, (slice-vals, (slice-vals, tt)))))) (λ κs. (shr-slice-tells (named 0) (κs .0) u8, (mut-slice-tells (named 1) (κs .1 .0) u64, (mut-slice-tells (named 2) (κs .1 .1 .0) u64, (mut-slice-tells (named 3) (κs .1 .1 .1 .0) u64, (mut-slice-tells (named 4) (κs .1 .1 .1 .1 .0) T.the-row, tt))))))
       (λ κs qs bounds a _ are. via 𝓤 _ (fst∗ 𝓤 _ (emp 𝓤)) (walk 𝓤 H A W mem run (κs .0) (κs .1 .0) (κs .1 .1 .0) (κs .1 .1 .1 .0) (κs .1 .1 .1 .1 .0) (qs .0) (qs .1 .0) (qs .1 .1 .0) (qs .1 .1 .1 .0) (qs .1 .1 .1 .1 .0) (a .0) (a .1 .0) (a .1 .1 .0) (a .1 .1 .1 .0) (a .1 .1 .1 .1 .0) (are .0 .0 .1) (are .1 .0 .0 .1) (are .1 .1 .0 .0 .1) (are .1 .1 .1 .0 .0 .1) (are .1 .1 .1 .1 .0 .0 .1) C Λ fm kn kr kc ks))
 
-read-plan-meets : {M : Type 1} (𝓤 : URA M) (H : Heap 𝓤) (A : Atoms 𝓤) (W : Given 𝓤 H A) (mem : Memory → SProp 𝓤) (run : Routine → Fun 𝓤) (𝓣 : Tables 𝓤 H) → Triple 𝓤 (𝓣 .C #records·no-rows) (None 𝓤 H A mem run) → Triple 𝓤 (𝓣 .C #records-read·read-in) (Reads 𝓤 H A mem run) → Triple 𝓤 (𝓣 .C #records-read·count-of) (Count 𝓤 H A mem run) → Triple 𝓤 (𝓣 .C #records·save) (Save 𝓤 H A mem run)
+read-plan-meets : {M : Type 1} (𝓤 : URA M) (H : Heap 𝓤) (A : Atoms 𝓤) (W : Given 𝓤 H A) (mem : Memory → SProp 𝓤) (run : Routine → Fun 𝓤) (𝓣 : Tables 𝓤 H) → Triple 𝓤 (𝓣 .C #records·no-rows) (None 𝓤 H A mem run) → Triple 𝓤 (𝓣 .C #records-read·read-in) (Reads 𝓤 H A mem run) → Triple 𝓤 (𝓣 .C #records-read·count-of) (Count 𝓤 H A mem run) → Triple 𝓤 (𝓣 .C #records-saved·save) (Save 𝓤 H A mem run)
     → Meets 𝓤 H A f.signature (WpFn 𝓤 H (𝓣 .C) (𝓣 .Λ) code.function) (f.spec 𝓤 H A mem run)
 read-plan-meets 𝓤 H A W mem run 𝓣 kn kr kc ks =
     walk-meets 𝓤 H A f.ended stayed W (goes-none-slice 𝓤 H A W 5 (0 ∷ []) tt (plain (λ _. u8)) yes, (goes-gave-slice 𝓤 H A W 5 1 tt (plain (λ _. u64)), (goes-gave-slice 𝓤 H A W 5 2 tt (plain (λ _. u64)), (goes-gave-slice 𝓤 H A W 5 3 tt (plain (λ _. u64)), (goes-gave-slice 𝓤 H A W 5 4 tt (plain (λ _. T.the-row)), tt))))) (f.clauses 𝓤 H A mem run) (WpFn 𝓤 H (𝓣 .C) (𝓣 .Λ) code.function) (WpFn-mono 𝓤 H (W .laws) 𝓣 code.function)
@@ -184,4 +184,4 @@ read-plan-spec 𝓤 H 𝓜 𝓖 𝓡 =
     (cited 𝓤 H (None 𝓤 H (𝓖 .A) (𝓜 .mem) (𝓡 .run)) 𝓜 𝓡 code.env #records·no-rows none-def.routine code.calls-records·no-rows (none-thm.met 𝓤 H 𝓜 𝓖 𝓡))
     (cited 𝓤 H (Reads 𝓤 H (𝓖 .A) (𝓜 .mem) (𝓡 .run)) 𝓜 𝓡 code.env #records-read·read-in reads-def.routine code.calls-records-read·read-in (reads-thm.met 𝓤 H 𝓜 𝓖 𝓡))
     (cited 𝓤 H (Count 𝓤 H (𝓖 .A) (𝓜 .mem) (𝓡 .run)) 𝓜 𝓡 code.env #records-read·count-of count-def.routine code.calls-records-read·count-of (count-thm.met 𝓤 H 𝓜 𝓖 𝓡))
-    (cited 𝓤 H (Save 𝓤 H (𝓖 .A) (𝓜 .mem) (𝓡 .run)) 𝓜 𝓡 code.env #records·save save-def.routine code.calls-records·save (save-thm.met 𝓤 H 𝓜 𝓖 𝓡)))
+    (cited 𝓤 H (Save 𝓤 H (𝓖 .A) (𝓜 .mem) (𝓡 .run)) 𝓜 𝓡 code.env #records-saved·save save-def.routine code.calls-records-saved·save (save-thm.met 𝓤 H 𝓜 𝓖 𝓡)))

@@ -1,30 +1,31 @@
--- `records::kept` meets its contract: a walk of its MIR, by hand. A local table of records is lent as a `&mut [Task]` to `save`, beside the rows, which are lent as a `&[u64]`; both are taken back; then the table is lent as a `&[Task]` to `load`, which is given the rows. All that the proof knows of each callee is that it meets its contract.
+-- `records_saved::kept` meets its contract: a walk of its MIR, by hand. A local table of records is lent as a `&mut [Task]` to `save`, beside the rows, which are lent as a `&[u64]`; both are taken back; then the table is lent as a `&[Task]` to `load`, which is given the rows. All that the proof knows of each callee is that it meets its contract.
 -- The borrow of the rows is opened for the first loan, and closed after it; then it goes to `load` at its own lifetime, share and ghost name, and is given up for good (`gave-slice`). For each loan a lifetime is made, and ended after the call.
 -- Assumes nothing.
 use Rattle.records.proofs.Kit.{_*_, refl, sym, ap, subst, _≡_, _∙_, ℕ, _≤_, min, _∷_, List, length, URA, named, w64, Ty, imm, tyRef, mut, erased, Val, vunit, SProp, ent, emp, id⊢, exE, snd∗, GName, Lft, Share, ftrue, flft, fat, fsep, Fml, froom, flent, Memory, Routine, Heap, Calls, Loops, WpFn, Tables, Atoms, sem, Fun, fact, givenOf, tables, tablesOf, Given, ‵, _⊛_, ⋆, _$_, _∵_, !, qed, by, move, suffices, frame, done, split, join, rewrite, fsplit, fjoin, drop, feqI, raw, some, later, use0, use1, use2, pick, await, use3, feqL, look, init, forget, stop, fld, from, load, of-opd, assigns, returns, enter, alloc1, alloc0, params1, pass1, pass0, free1, free0, hop, lit, unit-lit, and-then, no-more, land, addr, whole, sub, look-in, agg, WpFn-mono, FmC, fmOf, owns, Is, shows, uint-makes, uint-vals, uint-tells, uint-lawful, Nothing, nothing-lawful, usize, u64, sliceVal, ShrSlice, Room, slice-vals, MutSlice, mut-slice-tells, at-slice, sliceTy, finally, plain, owned, nothing, peeks, heard, Vals, onEntry, Meets, tripleOf, entered, cited, says, Stays, walkOf, Walks, ends-at, walked, walk-meets, needs, stay-none, goes-none, gave-slice, goes-gave-slice, yes, RefT, arith, fullShare, opens-slice, closes-slice, row, whole-in, whole-out, pureI, Held, lends-slice, slice-back, lends-shr-slice, lit<, pointee, shares, Contract, Triple, calls-at, ensured, lasts, lft-new, lft-end, lent-back, cells, Arr, arr-parts, []}
 use types.Run.{load as read}
 use denote.Memory.{mem as inMem}
 use Rattle.plan_tables.specs.Layout.{over}
-use Rattle.records.specs.Sheet.{Task, sheetRows, cutTo, saved}
+use Rattle.records.specs.declared.Task.{Task}
+use Rattle.records.specs.Sheet.{sheetRows, cutTo, saved}
 use Rattle.records.specs.Blank.{noTasks, none-many, kept-rows}
-use Rattle.records.proofs.LentTasks.{RT, table, tasks-room, no-tasks-room, table-typed, to-table, from-table}
+use Rattle.records_saved.proofs.LentTasks.{RT, table, tasks-room, no-tasks-room, table-typed, to-table, from-table}
 use Rattle.records.proofs.Task as T
-use Rattle.records.proofs.no_tasks as none
-use Rattle.records.proofs.no_tasks.Symbol as none-def
-use Rattle.records.proofs.no_tasks.Symbol.{name as #records·no-tasks}
-use Rattle.records.proofs.no_tasks.Met as none-thm
-use Rattle.records.proofs.save as save
-use Rattle.records.proofs.save.Symbol as save-def
-use Rattle.records.proofs.save.Symbol.{name as #records·save}
-use Rattle.records.proofs.save.Met as save-thm
+use Rattle.records_saved.proofs.no_tasks as none
+use Rattle.records_saved.proofs.no_tasks.Symbol as none-def
+use Rattle.records_saved.proofs.no_tasks.Symbol.{name as #records-saved·no-tasks}
+use Rattle.records_saved.proofs.no_tasks.Met as none-thm
+use Rattle.records_saved.proofs.save as save
+use Rattle.records_saved.proofs.save.Symbol as save-def
+use Rattle.records_saved.proofs.save.Symbol.{name as #records-saved·save}
+use Rattle.records_saved.proofs.save.Met as save-thm
 use Rattle.records.proofs.load as load
 use Rattle.records.proofs.load.Symbol as load-def
 use Rattle.records.proofs.load.Symbol.{name as #records·load}
 use Rattle.records.proofs.load.Met as load-thm
-use Rattle.records.proofs.kept.Key.{name as #records·kept}
-use Rattle.records.proofs.kept as f
-use Rattle.records.proofs.kept.Statement as stated
-use Rattle.records.proofs.kept.Code as code
+use Rattle.records_saved.proofs.kept.Key.{name as #records-saved·kept}
+use Rattle.records_saved.proofs.kept as f
+use Rattle.records_saved.proofs.kept.Statement as stated
+use Rattle.records_saved.proofs.kept.Code as code
 
 abbrev stayed : Stays (f.ended .signature .params) (f.ended .kept)
 stayed = (gave-slice (0 ∷ []) tt (plain (λ _. u64)), (stay-none (λ _. usize) yes, tt))
@@ -122,7 +123,7 @@ module _ {M : Type 1} (𝓤 : URA M) (H : Heap 𝓤) (A : Atoms 𝓤) (W : Given
   same : (ks : List Task) (c : ℕ) (ws : List ℕ) → ks ≡ saved noTasks ys n → Said ks c ws → ws ≡ ys
   same ks c ws e h = h .1 ∙ ap (λ (l : List Task). over (sheetRows (cutTo (min n 64) l)) ys) e ∙ kept-rows ys n few long
 
-  module _ (C : Calls 𝓤 H) (Λ : Loops 𝓤 H) (fm : FmC 𝓤 H (W .laws) C) (k-none : Triple 𝓤 (C #records·no-tasks) (None 𝓤 H A mem run)) (k-save : Triple 𝓤 (C #records·save) (Save 𝓤 H A mem run)) (k-load : Triple 𝓤 (C #records·load) (Load 𝓤 H A mem run)) where
+  module _ (C : Calls 𝓤 H) (Λ : Loops 𝓤 H) (fm : FmC 𝓤 H (W .laws) C) (k-none : Triple 𝓤 (C #records-saved·no-tasks) (None 𝓤 H A mem run)) (k-save : Triple 𝓤 (C #records-saved·save) (Save 𝓤 H A mem run)) (k-load : Triple 𝓤 (C #records·load) (Load 𝓤 H A mem run)) where
     walk : ent 𝓤 (onEntry 𝓤 H A f.signature (κ, tt) (q, tt) (ref γ₀, (n, tt)) at) (WpFn 𝓤 H C Λ code.function (v ∷ n-val ∷ []) Post)
     walk =
         qed W ((‵ (flft κ q) ⊛ ‵ ftrue) ∷ ‵ (owns (MutSlice (named 0) κ u64 ∷ usize ∷ []) (ref γ₀, (n, tt)) at) ∷ []) ∵ enter ! C Λ code.function (v ∷ n-val ∷ []) _ $
@@ -188,12 +189,12 @@ module _ {M : Type 1} (𝓤 : URA M) (H : Heap 𝓤) (A : Atoms 𝓤) (W : Given
         by ! (exits (zs .1 .0) (same (us .0) c (zs .1 .0) e₁ e₂))))))))))))))))))))))))))))))))))))))
 
 module _ {M : Type 1} (𝓤 : URA M) (H : Heap 𝓤) (A : Atoms 𝓤) (W : Given 𝓤 H A) (mem : Memory → SProp 𝓤) (run : Routine → Fun 𝓤) where
-  kept-walks : (C : Calls 𝓤 H) (Λ : Loops 𝓤 H) → FmC 𝓤 H (W .laws) C → Triple 𝓤 (C #records·no-tasks) (None 𝓤 H A mem run) → Triple 𝓤 (C #records·save) (Save 𝓤 H A mem run) → Triple 𝓤 (C #records·load) (Load 𝓤 H A mem run) → Walks 𝓤 H A f.ended stayed (WpFn 𝓤 H C Λ code.function) (f.clauses 𝓤 H A mem run)
+  kept-walks : (C : Calls 𝓤 H) (Λ : Loops 𝓤 H) → FmC 𝓤 H (W .laws) C → Triple 𝓤 (C #records-saved·no-tasks) (None 𝓤 H A mem run) → Triple 𝓤 (C #records-saved·save) (Save 𝓤 H A mem run) → Triple 𝓤 (C #records·load) (Load 𝓤 H A mem run) → Walks 𝓤 H A f.ended stayed (WpFn 𝓤 H C Λ code.function) (f.clauses 𝓤 H A mem run)
   kept-walks C Λ fm kn ks kl =
       walked 𝓤 H A f.ended stayed (f.clauses 𝓤 H A mem run) (WpFn 𝓤 H C Λ code.function) (λ κs. (slice-vals, (uint-vals w64, tt))) (λ κs. (mut-slice-tells (named 0) (κs .0) u64, (uint-tells w64, tt)))
       (λ κs qs bounds a _ are. needs 𝓤 _ _ (λ h. walk 𝓤 H A W mem run (κs .0) (qs .0) (a .0 .ptr .0) (a .0 .ptr .1) (a .0 .name) (a .0 .now) (a .1 .0) _ (are .1 .0) (are .0 .0 .1) (h .0) (h .1) C Λ fm kn ks kl))
 
-kept-meets : {M : Type 1} (𝓤 : URA M) (H : Heap 𝓤) (A : Atoms 𝓤) (W : Given 𝓤 H A) (mem : Memory → SProp 𝓤) (run : Routine → Fun 𝓤) (𝓣 : Tables 𝓤 H) → Triple 𝓤 (𝓣 .C #records·no-tasks) (None 𝓤 H A mem run) → Triple 𝓤 (𝓣 .C #records·save) (Save 𝓤 H A mem run) → Triple 𝓤 (𝓣 .C #records·load) (Load 𝓤 H A mem run)
+kept-meets : {M : Type 1} (𝓤 : URA M) (H : Heap 𝓤) (A : Atoms 𝓤) (W : Given 𝓤 H A) (mem : Memory → SProp 𝓤) (run : Routine → Fun 𝓤) (𝓣 : Tables 𝓤 H) → Triple 𝓤 (𝓣 .C #records-saved·no-tasks) (None 𝓤 H A mem run) → Triple 𝓤 (𝓣 .C #records-saved·save) (Save 𝓤 H A mem run) → Triple 𝓤 (𝓣 .C #records·load) (Load 𝓤 H A mem run)
     → Meets 𝓤 H A f.signature (WpFn 𝓤 H (𝓣 .C) (𝓣 .Λ) code.function) (f.spec 𝓤 H A mem run)
 kept-meets 𝓤 H A W mem run 𝓣 kn ks kl =
     walk-meets 𝓤 H A f.ended stayed W (goes-gave-slice 𝓤 H A W 1 0 tt (plain (λ _. u64)), (goes-none 𝓤 H A W 1 (λ _. usize) yes (λ κs x f. refl), tt)) (f.clauses 𝓤 H A mem run) (WpFn 𝓤 H (𝓣 .C) (𝓣 .Λ) code.function) (WpFn-mono 𝓤 H (W .laws) 𝓣 code.function)
@@ -203,8 +204,8 @@ pub kept-spec : {M : Type 1} → stated.statement M
 unfolding code.routine tablesOf
 kept-spec 𝓤 H 𝓜 𝓖 𝓡 =
     entered 𝓤 H (tripleOf 𝓤 H (𝓖 .A) f.signature (f.spec 𝓤 H (𝓖 .A) (𝓜 .mem) (𝓡 .run)))
-    (tables 𝓤 H 𝓜 𝓡 code.env .C) (tables 𝓤 H 𝓜 𝓡 code.env .Λ) #records·kept code.function (code.unfolded 𝓤 H 𝓜 𝓡)
+    (tables 𝓤 H 𝓜 𝓡 code.env .C) (tables 𝓤 H 𝓜 𝓡 code.env .Λ) #records-saved·kept code.function (code.unfolded 𝓤 H 𝓜 𝓡)
     (kept-meets 𝓤 H (𝓖 .A) (givenOf 𝓤 H 𝓜 𝓖) (𝓜 .mem) (𝓡 .run) (tablesOf 𝓤 H 𝓜 (tables 𝓤 H 𝓜 𝓡 code.env))
-    (cited 𝓤 H (None 𝓤 H (𝓖 .A) (𝓜 .mem) (𝓡 .run)) 𝓜 𝓡 code.env #records·no-tasks none-def.routine code.calls-records·no-tasks (none-thm.met 𝓤 H 𝓜 𝓖 𝓡))
-    (cited 𝓤 H (Save 𝓤 H (𝓖 .A) (𝓜 .mem) (𝓡 .run)) 𝓜 𝓡 code.env #records·save save-def.routine code.calls-records·save (save-thm.met 𝓤 H 𝓜 𝓖 𝓡))
+    (cited 𝓤 H (None 𝓤 H (𝓖 .A) (𝓜 .mem) (𝓡 .run)) 𝓜 𝓡 code.env #records-saved·no-tasks none-def.routine code.calls-records-saved·no-tasks (none-thm.met 𝓤 H 𝓜 𝓖 𝓡))
+    (cited 𝓤 H (Save 𝓤 H (𝓖 .A) (𝓜 .mem) (𝓡 .run)) 𝓜 𝓡 code.env #records-saved·save save-def.routine code.calls-records-saved·save (save-thm.met 𝓤 H 𝓜 𝓖 𝓡))
     (cited 𝓤 H (Load 𝓤 H (𝓖 .A) (𝓜 .mem) (𝓡 .run)) 𝓜 𝓡 code.env #records·load load-def.routine code.calls-records·load (load-thm.met 𝓤 H 𝓜 𝓖 𝓡)))

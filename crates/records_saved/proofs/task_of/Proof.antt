@@ -1,9 +1,9 @@
--- `records::task_of` meets its contract.
+-- `records_saved::task_of` meets its contract.
 use native.Mathlib.Omega.{arith}
 use borrow.Author.Needs.{needs}
 use Rattle.records.specs.SaveLaws.{task-read}
-use Rattle.records.proofs.task_of.Statement.{statement}
-use Rattle.records.proofs.task_of.Tie as tie
+use Rattle.records_saved.proofs.task_of.Statement.{statement}
+use Rattle.records_saved.proofs.task_of.Tie as tie
 
 add-at-2 : tie.Need-add-at-2
 add-at-2 c = let p = c .before .before .before .before .before .before .before .before .before .before .before .pre in omega arith

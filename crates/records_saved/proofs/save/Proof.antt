@@ -1,23 +1,24 @@
--- `records::save` meets its contract: a walk of its MIR, by hand, with a loop that calls `task_of` and stores what it gives. All that the proof knows of `task_of` is that it meets its contract.
+-- `records_saved::save` meets its contract: a walk of its MIR, by hand, with a loop that calls `task_of` and stores what it gives. All that the proof knows of `task_of` is that it meets its contract.
 -- The loop's invariant: the slice holds the records of the first i rows in the place of its own. The variant is how many records are left. The borrow is opened and closed in each turn.
 -- Assumes nothing.
 use Rattle.records.proofs.Kit.{refl, sym, ap, subst, _≡_, _∙_, ℕ, _*_, _<_, _^_, _+_, _-_, _≤_, [], _∷_, List, length, set, length-set, URA, named, w64, tyPtr, Ty, imm, tyInt, tyBool, tyRef, mut, tyUnit, Val, vint, vptr, vunit, WT, hasTy, vbool, SProp, ent, via, sep, ex, guard, id⊢, exI, exE, guardI, guardE, snd∗, GName, Lft, Share, ftrue, flft, fat, fobs, fbor, Fml, froom, fdies, Memory, Routine, Heap, Calls, Loops, WpFn, Tables, Out, Env, afterSeq, afterBlock, Wp, atReturn, afterTurn, Atoms, sem, Fun, fact, givenOf, tables, tablesOf, Given, ‵, _⊛_, ⋆, _$_, _∵_, !, qed, by, move, suffices, frame, done, split, join, rewrite, fsplit, fjoin, drop, feqI, Item, raw, some, later, anyQ, atRet, use1, use2, pick, await, look, init, forget, stop, fld, from, of-opd, assigns, returns, enter, alloc1, alloc0, params1, pass1, pass0, free1, free0, hop, lit, bin, store-raw, unit-lit, store, and-then, no-more, land, assigns-last, stays, leaves-loop, exec, whole, sub, look-in, WpFn-mono, fmOf, owns, Is, shows, uint-makes, uint-vals, uint-tells, usize, u64, sliceVal, ShrSlice, Room, slice-vals, shr-slice-tells, MutSlice, heres, mut-slice-tells, at-slice, codedHoleys, sliceTy, shr-slice-copy, plain, owned, nothing, peeks, heard, Vals, onEntry, Meets, tripleOf, entered, cited, says, Stays, stay-none-slice, walkOf, goes-none-slice, Walks, ends-at, walked, walk-meets, needs, stay-none, goes-none, stay-slice, goes-slice, yes, RefT, arith, fullShare, place-is, elem-out, elem-put, opens-slice, closes-slice, pureI, Held, Bool, true, false, ltb, lit<, Nat·lt-wfRel, lt-ltb, le-ltb, ltb-true, ltb-false, loop-rule, pointee, Contract, Triple, calls-at, ensured, lasts, Lfts}
 use lib.Dec.{T as Holds}
 use types.Run.{load as read}
 use denote.Struct.Laws as LL
-use Rattle.records.specs.Sheet.{Task, blankTask, taskOf, saved}
+use Rattle.records.specs.declared.Task.{Task}
+use Rattle.records.specs.Sheet.{blankTask, taskOf, saved}
 use Rattle.records.specs.SaveLaws.{saved-none, saved-more, saved-length}
 use Rattle.records.proofs.Task as T
 use Rattle.records.proofs.Task.Laws as T′
-use Rattle.records.proofs.task_of as task
-use Rattle.records.proofs.task_of.Symbol as task-def
-use Rattle.records.proofs.task_of.Symbol.{name as #records·task-of}
-use Rattle.records.proofs.task_of.Met as task-thm
-use Rattle.records.proofs.save.Key.{name as #records·save}
-use Rattle.records.proofs.save as f
-use Rattle.records.proofs.save.Statement as stated
-use Rattle.records.proofs.save.Code as code
-use Rattle.records.proofs.save.Code.Mir as mir
+use Rattle.records_saved.proofs.task_of as task
+use Rattle.records_saved.proofs.task_of.Symbol as task-def
+use Rattle.records_saved.proofs.task_of.Symbol.{name as #records-saved·task-of}
+use Rattle.records_saved.proofs.task_of.Met as task-thm
+use Rattle.records_saved.proofs.save.Key.{name as #records-saved·save}
+use Rattle.records_saved.proofs.save as f
+use Rattle.records_saved.proofs.save.Statement as stated
+use Rattle.records_saved.proofs.save.Code as code
+use Rattle.records_saved.proofs.save.Code.Mir as mir
 
 abbrev stayed : Stays (f.ended .signature .params) (f.ended .kept)
 stayed = (stay-slice (0 ∷ []) tt (plain (λ _. T.the-row)), (stay-none-slice (1 ∷ []) tt (plain (λ _. u64)) yes, (stay-none (λ _. usize) yes, tt)))
@@ -98,7 +99,7 @@ module _ {M : Type 1} (𝓤 : URA M) (H : Heap 𝓤) (A : Atoms 𝓤) (W : Given
   task-said : (i : ℕ) (r : Task) → ent 𝓤 (ensured 𝓤 H A task.ended (task.clauses 𝓤 H A mem run) (κ′, tt) (t, (i, tt)) tt r) (fact 𝓤 (r ≡ taskOf (t .now) i))
   task-said i r = exE 𝓤 _ (λ ws. snd∗ 𝓤 (sem 𝓤 H A (lasts task.ended (κ′, tt) (t, (i, tt)) ws)) (fact 𝓤 (r ≡ taskOf (t .now) i)))
 
-  module _ (𝓣 : Tables 𝓤 H) (known-task : Triple 𝓤 (𝓣 .C #records·task-of) (TaskOf 𝓤 H A mem run)) (l₀ l₁ l₂ l₃ l₄ l₅ l₆ l₇ l₈ : ℕ) where
+  module _ (𝓣 : Tables 𝓤 H) (known-task : Triple 𝓤 (𝓣 .C #records-saved·task-of) (TaskOf 𝓤 H A mem run)) (l₀ l₁ l₂ l₃ l₄ l₅ l₆ l₇ l₈ : ℕ) where
     abbrev C : Calls 𝓤 H
     C = 𝓣 .C
 
@@ -200,7 +201,7 @@ module _ {M : Type 1} (𝓤 : URA M) (H : Heap 𝓤) (A : Atoms 𝓤) (W : Given
     loops : ent 𝓤 (⋆ 𝓤 H A (At 0)) (Wp 𝓤 H C Λ En mir.s-2 (afterSeq 𝓤 H (Wp 𝓤 H C Λ En mir.t-3 (atReturn 𝓤 H En Post)) (atReturn 𝓤 H En Post)))
     loops = via 𝓤 (Inv n) (holds-at n 0 (record { left = omega arith; most = omega arith })) (loop-rule 𝓤 H (W .laws) 𝓣 _<_ (Nat·lt-wfRel .wf) En mir.turn-1 Left Inv turns n)
 
-  module _ (𝓣 : Tables 𝓤 H) (known-task : Triple 𝓤 (𝓣 .C #records·task-of) (TaskOf 𝓤 H A mem run)) where
+  module _ (𝓣 : Tables 𝓤 H) (known-task : Triple 𝓤 (𝓣 .C #records-saved·task-of) (TaskOf 𝓤 H A mem run)) where
     walk : ent 𝓤 (onEntry 𝓤 H A f.signature κs (q, (q′, tt)) (ref ys, (t, (n, tt))) at) (WpFn 𝓤 H (𝓣 .C) (𝓣 .Λ) code.function (v ∷ s ∷ vint w64 n ∷ []) Post)
     walk =
         qed W ((‵ (flft κ q) ⊛ ‵ (flft κ′ q′) ⊛ ‵ ftrue) ∷ ‵ (owns (MutSlice (named 0) κ T.the-row ∷ ShrSlice (named 1) κ′ u64 ∷ usize ∷ []) (ref ys, (t, (n, tt))) at) ∷ []) ∵ enter ! (𝓣 .C) (𝓣 .Λ) code.function (v ∷ s ∷ vint w64 n ∷ []) _ $
@@ -215,11 +216,11 @@ module _ {M : Type 1} (𝓤 : URA M) (H : Heap 𝓤) (A : Atoms 𝓤) (W : Given
         by ! (loops 𝓣 known-task l₀ l₁ l₂ l₃ l₄ l₅ l₆ l₇ l₈))))))))))
 
 module _ {M : Type 1} (𝓤 : URA M) (H : Heap 𝓤) (A : Atoms 𝓤) (W : Given 𝓤 H A) (mem : Memory → SProp 𝓤) (run : Routine → Fun 𝓤) where
-  save-walks : (𝓣 : Tables 𝓤 H) → Triple 𝓤 (𝓣 .C #records·task-of) (TaskOf 𝓤 H A mem run) → Walks 𝓤 H A f.ended stayed (WpFn 𝓤 H (𝓣 .C) (𝓣 .Λ) code.function) (f.clauses 𝓤 H A mem run)
+  save-walks : (𝓣 : Tables 𝓤 H) → Triple 𝓤 (𝓣 .C #records-saved·task-of) (TaskOf 𝓤 H A mem run) → Walks 𝓤 H A f.ended stayed (WpFn 𝓤 H (𝓣 .C) (𝓣 .Λ) code.function) (f.clauses 𝓤 H A mem run)
   save-walks 𝓣 known = walked 𝓤 H A f.ended stayed (f.clauses 𝓤 H A mem run) (WpFn 𝓤 H (𝓣 .C) (𝓣 .Λ) code.function) (λ κs. (slice-vals, (slice-vals, (uint-vals w64, tt)))) (λ κs. (mut-slice-tells (named 0) (κs .0) T.the-row, (shr-slice-tells (named 1) (κs .1 .0) u64, (uint-tells w64, tt))))
       (λ κs qs bounds a _ are. needs 𝓤 _ _ (λ h. walk 𝓤 H A W mem run (κs .0) (κs .1 .0) (qs .0) (qs .1 .0) (a .0 .ptr .0) (a .0 .ptr .1) (a .0 .name) (a .0 .now) (a .1 .0) (a .1 .1 .0) (are .0 .0 .1) (are .1 .0 .0 .1) (are .1 .1 .0 .1) (h .0) (h .1) 𝓣 known))
 
-save-meets : {M : Type 1} (𝓤 : URA M) (H : Heap 𝓤) (A : Atoms 𝓤) → Given 𝓤 H A → (mem : Memory → SProp 𝓤) (run : Routine → Fun 𝓤) (𝓣 : Tables 𝓤 H) → Triple 𝓤 (𝓣 .C #records·task-of) (TaskOf 𝓤 H A mem run)
+save-meets : {M : Type 1} (𝓤 : URA M) (H : Heap 𝓤) (A : Atoms 𝓤) → Given 𝓤 H A → (mem : Memory → SProp 𝓤) (run : Routine → Fun 𝓤) (𝓣 : Tables 𝓤 H) → Triple 𝓤 (𝓣 .C #records-saved·task-of) (TaskOf 𝓤 H A mem run)
     → Meets 𝓤 H A f.signature (WpFn 𝓤 H (𝓣 .C) (𝓣 .Λ) code.function) (f.spec 𝓤 H A mem run)
 save-meets 𝓤 H A W mem run 𝓣 known = walk-meets 𝓤 H A f.ended stayed W (goes-slice 𝓤 H A W 2 0 tt (plain (λ _. T.the-row)), (goes-none-slice 𝓤 H A W 2 (1 ∷ []) tt (plain (λ _. u64)) yes, (goes-none 𝓤 H A W 2 (λ _. usize) yes (λ κs x f. refl), tt))) (f.clauses 𝓤 H A mem run) (WpFn 𝓤 H (𝓣 .C) (𝓣 .Λ) code.function) (WpFn-mono 𝓤 H (W .laws) 𝓣 code.function) (save-walks 𝓤 H A W mem run 𝓣 known)
 
@@ -227,6 +228,6 @@ pub save-spec : {M : Type 1} → stated.statement M
 unfolding code.routine tablesOf
 save-spec 𝓤 H 𝓜 𝓖 𝓡 =
     entered 𝓤 H (tripleOf 𝓤 H (𝓖 .A) f.signature (f.spec 𝓤 H (𝓖 .A) (𝓜 .mem) (𝓡 .run)))
-    (tables 𝓤 H 𝓜 𝓡 code.env .C) (tables 𝓤 H 𝓜 𝓡 code.env .Λ) #records·save code.function (code.unfolded 𝓤 H 𝓜 𝓡)
+    (tables 𝓤 H 𝓜 𝓡 code.env .C) (tables 𝓤 H 𝓜 𝓡 code.env .Λ) #records-saved·save code.function (code.unfolded 𝓤 H 𝓜 𝓡)
     (save-meets 𝓤 H (𝓖 .A) (givenOf 𝓤 H 𝓜 𝓖) (𝓜 .mem) (𝓡 .run) (tablesOf 𝓤 H 𝓜 (tables 𝓤 H 𝓜 𝓡 code.env))
-    (cited 𝓤 H (TaskOf 𝓤 H (𝓖 .A) (𝓜 .mem) (𝓡 .run)) 𝓜 𝓡 code.env #records·task-of task-def.routine code.calls-records·task-of (task-thm.met 𝓤 H 𝓜 𝓖 𝓡)))
+    (cited 𝓤 H (TaskOf 𝓤 H (𝓖 .A) (𝓜 .mem) (𝓡 .run)) 𝓜 𝓡 code.env #records-saved·task-of task-def.routine code.calls-records-saved·task-of (task-thm.met 𝓤 H 𝓜 𝓖 𝓡)))

@@ -1,8 +1,8 @@
--- `records::lock_of` meets its contract.
+-- `records_saved::lock_of` meets its contract.
 use borrow.Author.Needs.{needs}
 use Rattle.records.specs.SaveLaws.{lock-read}
-use Rattle.records.proofs.lock_of.Statement.{statement}
-use Rattle.records.proofs.lock_of.Tie as tie
+use Rattle.records_saved.proofs.lock_of.Statement.{statement}
+use Rattle.records_saved.proofs.lock_of.Tie as tie
 
 returns : tie.Need-returns
 returns c = lock-read _ _ _ _ _ _ (c .before .before .at .ensures) (c .before .at2 .ensures) (c .at3 .ensures)

@@ -1,4 +1,4 @@
--- `records::all_kept` meets its contract.
+-- `records_saved::all_kept` meets its contract.
 use Prim.Native.Nat.{ℕ, _+_, _-_, _*_, _≤_}
 use mathlib.Core.Path.{_≡_, refl, ap, _∙_}
 use mathlib.Core.List.{List, _++_}
@@ -6,8 +6,8 @@ use native.Mathlib.Omega.{arith}
 use borrow.Author.Needs.{needs}
 use lib.ListN.{length, take, drop, take-append-drop, length-drop}
 use Rattle.plan_tables.specs.Layout.{taskWidth}
-use Rattle.records.proofs.all_kept.Statement.{statement}
-use Rattle.records.proofs.all_kept.Tie as tie
+use Rattle.records_saved.proofs.all_kept.Statement.{statement}
+use Rattle.records_saved.proofs.all_kept.Tie as tie
 
 abbrev Inv-loop : tie.InvT-loop
 Inv-loop rows₀ n i₀ rows i = (i ≤ n + 8) × (length rows ≡ length rows₀) × (rows ≡ rows₀)

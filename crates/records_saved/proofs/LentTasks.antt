@@ -1,12 +1,12 @@
 -- A local that holds a table of records, as a row of records in memory: what is lent as a slice, and taken back.
 -- Assumes nothing.
 use Rattle.records.proofs.Kit.{sym, subst, ℕ, [], _∷_, List, length, lit<, URA, fullShare, Ty, tyArray, Val, WT, hasTy, ent, sep, via, fsep, fat, froom, Heap, Atoms, sem, Given, ‵, _$_, _∵_, !, qed, by, use1, fjoin, fpack, arr-parts, part-room, RattleType, Is, cellAt, partOf, shares, Array, array-lawful, array-apart, array-whole, Room}
 use lib.Dec.{T as Holds}
 use denote.Struct.Laws as LL
-use Rattle.records.specs.Sheet.{Task}
+use Rattle.records.specs.declared.Task.{Task}
 use Rattle.records.specs.Blank.{noTasks, none-many}
 use Rattle.records.proofs.Task as T
 use Rattle.records.proofs.Task.Laws as T′
 
 -- the table's type
 abbrev pub RT : RattleType
