@@ -187,7 +187,7 @@ pub fn fault_of(t: Seen, kind: Kind, a: u64, b: u64, c: u64, d: u64, e: u64) -> 
     ensures { λ r. ⌜ r ≡ fault coded.coded t (item kind a b c d e) ⌝ }
 {
     let ruled = rule(t, kind, a, b, c, d, e);
-    let fit = text_lines::written_of(kind, a, b, c, d, e);
+    let fit = text_written::written_of(kind, a, b, c, d, e);
     unless(
         follows(t.phase, kind),
         Refusal::Shape,

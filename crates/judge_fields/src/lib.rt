@@ -42,7 +42,7 @@ pub fn field_of(t: Seen, kind: Kind, a: u64, b: u64, c: u64, d: u64, e: u64, r: 
 {
     match r {
         Refusal::Shape => 0,
-        Refusal::Number => text_lines::unwritten_of(kind, a, b, c, d, e),
+        Refusal::Number => text_written::unwritten_of(kind, a, b, c, d, e),
         Refusal::Range => range_of(kind, a, b, c, d, e),
         Refusal::Order => 0,
         Refusal::Missing => missing_of(is_global(t, a), kind),

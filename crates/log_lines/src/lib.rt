@@ -98,7 +98,7 @@ fn on_kind(
     requires { ⌜ Marked (factsIn policy choice (now view)) b ⌝ }
     ensures { λ r. ⌜ r ≡ onTold (factsIn policy choice (now (view .entry))) b (written (shape kind) (numsOf kind (s .a) (s .b) (s .c) (s .d) (s .e))) (toldOf (eventOf kind (numsOf kind (s .a) (s .b) (s .c) (s .d) (s .e)))) ⌝ }
 {
-    let ok = text_lines::written_of(kind, s.a, s.b, s.c, s.d, s.e);
+    let ok = text_written::written_of(kind, s.a, s.b, s.c, s.d, s.e);
     let t = event_in(kind, s.a, s.b, s.c, s.d, s.e);
     on_told(b, policy, choice, view, ok, t)
 }

@@ -1,22 +1,20 @@
 -- What a line says, from its parts.
 use Prim.Native.Nat.{ℕ}
-use mathlib.Core.Path.{_≡_, sym}
+use mathlib.Core.Path.{_≡_}
 use mathlib.Core.List.{List}
 use mathlib.Core.Bool.{true, _&&_}
 use lib.Dec.{eqb, ltb}
 use Rattle.laws.specs.Choice.{when}
 use Rattle.laws.specs.Fields.{before, after, count, field}
 use Rattle.plan.specs.Limits.{tab}
-use Rattle.plan.specs.Line.{numberAt, shape, size, numsOf}
-use Rattle.plan.specs.Fields.{unwritten}
-use Rattle.plan.specs.declared.Kind.{Kind}
+use Rattle.plan.specs.Line.{numberAt}
 use Rattle.plan.specs.declared.Found.{Found}
 use Rattle.text_words.specs.Keys.{kindAt}
 use Rattle.text_words.specs.KeyLaws.{small}
 use Rattle.text_words.specs.KindLaws.{kind-code}
 use Rattle.text_lines.specs.Said.{Said, saidOf}
-use Rattle.text_lines.specs.Code.{sizeIn, pickOf, placeOf, spotOf, unwrittenBy, saidBy, saidFields, saidAfter}
-use Rattle.text_lines.specs.SaidLaws.{said-code, unwritten-code}
+use Rattle.text_lines.specs.Code.{sizeIn, pickOf, placeOf, saidBy, saidFields, saidAfter}
+use Rattle.text_lines.specs.SaidLaws.{said-code}
 
 -- by its numbers
 pub by-told :
@@ -47,10 +45,3 @@ pub line-told :
     (l : List ℕ) {w t : List ℕ} {c : ℕ} {r : Said} → small l ≡ true → w ≡ before tab l → t ≡ after tab l → c ≡ count tab l → r ≡ saidAfter c w t → r ≡ saidOf l
 unfolding saidAfter saidFields field
 line-told l h w t c r = rw (r, c, t, w, said-code l, kind-code l h)
-
--- the first number that is not written as it should be
-pub unwritten-told :
-    (k : Kind) (a b c d e : ℕ) {n p q r s t : ℕ} → n ≡ size (shape k) → p ≡ spotOf (ltb 4 n) e 0 → q ≡ spotOf (ltb 3 n) d p → r ≡ spotOf (ltb 2 n) c q →
-    s ≡ spotOf (ltb 1 n) b r → t ≡ spotOf (ltb 0 n) a s → t ≡ unwritten (numsOf k a b c d e)
-unfolding unwrittenBy
-unwritten-told k a b c d e n p q r s t = rw (t, s, r, q, p, n) (sym (unwritten-code k a b c d e))

@@ -1,14 +1,14 @@
 -- A line as code tests it: each number by its field, once its kind is found by tabs and words.
-use Prim.Native.Nat.{ℕ, _-_}
+use Prim.Native.Nat.{ℕ}
 use mathlib.Core.List.{List}
-use mathlib.Core.Bool.{Bool, true, false, cond, _&&_, _||_}
-use lib.Dec.{eqb, leb, ltb}
+use mathlib.Core.Bool.{Bool, true, false, _&&_}
+use lib.Dec.{eqb, ltb}
 use Rattle.laws.specs.Choice.{when}
 use Rattle.laws.specs.Fields.{before, after}
 use Rattle.plan.specs.Limits.{tab}
 use Rattle.plan.specs.declared.Found.{Found}
 use Rattle.plan.specs.declared.Found.the-variants.{Is, Nothing}
-use Rattle.plan.specs.Line.{bad, numberAt, shape, size}
+use Rattle.plan.specs.Line.{numberAt, shape, size}
 use Rattle.text_lines.specs.Said.{Said}
 use Rattle.text_words.specs.Keys.{kindAt}
 
@@ -46,16 +46,3 @@ saidFields c f x y v = saidBy c (sizeIn f) f x y (before tab v) (before tab (aft
 unfoldable pub saidAfter : ℕ → List ℕ → List ℕ → Said
 saidAfter c w t =
     saidFields c (kindAt c w (before tab t) (before tab (after tab t))) (before tab t) (before tab (after tab t)) (after tab (after tab t))
-
--- are the first n of five numbers written as they should be?
-unfoldable pub writtenBy : ℕ → ℕ → ℕ → ℕ → ℕ → ℕ → Bool
-writtenBy n a b c d e =
-    (leb n 0 || ltb a bad) && ((leb n 1 || ltb b bad) && ((leb n 2 || ltb c bad) && ((leb n 3 || ltb d bad) && (leb n 4 || ltb e bad))))
-
--- where there is a number x: its field where it is not written as it should be, else what follows it
-unfoldable pub spotOf : Bool → ℕ → ℕ → ℕ
-spotOf on x rest = when on (cond (ltb x bad) rest (x - bad))
-
--- the field of the first of n numbers that is not written as it should be
-unfoldable pub unwrittenBy : ℕ → ℕ → ℕ → ℕ → ℕ → ℕ → ℕ
-unwrittenBy n a b c d e = spotOf (ltb 0 n) a (spotOf (ltb 1 n) b (spotOf (ltb 2 n) c (spotOf (ltb 3 n) d (spotOf (ltb 4 n) e 0))))

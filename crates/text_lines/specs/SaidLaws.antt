@@ -3,7 +3,7 @@ use Prim.Native.Nat.{ℕ, zero, suc, pred, _+_}
 use mathlib.Core.Path.{_≡_, refl, ap, _∙_}
 use mathlib.Core.List.{List, [], _∷_}
 use mathlib.Core.Option.{some}
-use mathlib.Core.Bool.{true, and-true}
+use mathlib.Core.Bool.{true}
 use native.Mathlib.Omega.{arith}
 use lib.ListN.{length}
 use Rattle.laws.specs.BoolLaws.{both-right}
@@ -16,13 +16,12 @@ use Rattle.plan.specs.declared.Kind.{Kind}
 use Rattle.plan.specs.declared.Kind.the-variants.{PlanLine, PolicyPO, PolicyPN, PolicyDO, PolicyDN, VcpuLine, MutexG, MutexL, OpenLine, GuestLine, TaskLine, RunLine, LockLine, EndLine, AskLine, FreeLine, UseLine, TopLine, ShowLine}
 use Rattle.plan.specs.declared.Found.{Found}
 use Rattle.plan.specs.declared.Found.the-variants.{Is, Nothing}
-use Rattle.plan.specs.Line.{Form, Word, Num, Item, shape, kinds, hasShape, numberAt, numbers, kindIn, itemFrom, itemOf, written}
+use Rattle.plan.specs.Line.{Form, Word, Num, Item, shape, kinds, hasShape, numberAt, numbers, kindIn, itemFrom, itemOf}
 use Rattle.plan.specs.Rules.{nth}
-use Rattle.plan.specs.Fields.{unwritten}
 use Rattle.text_lines.specs.Said.{numbersIn, saidAs, saidOf, saidItem, itemSaid}
 use Rattle.plan.specs.Line.{size, numsOf}
 use Rattle.plan.specs.LineLaws.{kind-has}
-use Rattle.text_lines.specs.Code.{sizeIn, pickOf, placeOf, saidBy, writtenBy, spotOf, unwrittenBy}
+use Rattle.text_lines.specs.Code.{sizeIn, pickOf, placeOf, saidBy}
 
 pub has-length : (ps : List Form) (fs : List (List ℕ)) → hasShape ps fs ≡ true → length ps ≡ length fs
 unfolding hasShape
@@ -50,47 +49,38 @@ numbers-fields k (Num ∷ ps) (suc n) s h = ap (λ r. numberAt k (before tab s) 
 abbrev asNums : Kind → List ℕ → List ℕ
 asNums k ns = numsOf k (nth 0 ns) (nth 1 ns) (nth 2 ns) (nth 3 ns) (nth 4 ns)
 
--- FOR EACH KIND: what code reads of its fields; its numbers are as many of five; how code tests that they are written, and finds the first that is not
+-- FOR EACH KIND: what code reads of its fields; its numbers are as many of five
 abbrev Read : Kind → Type 0
 Read k =
-    ((l : List ℕ) →
+    (l : List ℕ) →
     (saidAs (Is k) (numbersBy 1 (shape k) l)
     ≡ saidBy (pred (length (shape k))) (size (shape k)) (Is k) (field tab 1 l) (field tab 2 l) (field tab 3 l) (field tab 4 l) (field tab 5 l))
-    × (numbersBy 1 (shape k) l ≡ asNums k (numbersBy 1 (shape k) l)))
-    × ((a b c d e : ℕ) →
-    (written (shape k) (numsOf k a b c d e) ≡ writtenBy (size (shape k)) a b c d e)
-    × (unwritten (numsOf k a b c d e) ≡ unwrittenBy (size (shape k)) a b c d e))
+    × (numbersBy 1 (shape k) l ≡ asNums k (numbersBy 1 (shape k) l))
 
 read-kind : (k : Kind) → Read k
-unfolding shape size numsOf numbersBy saidBy pickOf placeOf when field written writtenBy unwritten spotOf unwrittenBy
+unfolding shape size numsOf numbersBy saidBy pickOf placeOf when field
 read-kind k =
     elim k [
-      | PlanLine ↦ (λ l. (refl, refl), λ a b c d e. (refl, refl))
-      | PolicyPO ↦ (λ l. (refl, refl), λ a b c d e. (refl, refl))
-      | PolicyPN ↦ (λ l. (refl, refl), λ a b c d e. (refl, refl))
-      | PolicyDO ↦ (λ l. (refl, refl), λ a b c d e. (refl, refl))
-      | PolicyDN ↦ (λ l. (refl, refl), λ a b c d e. (refl, refl))
-      | VcpuLine ↦ (λ l. (refl, refl), λ a b c d e. (simp and-true, refl))
-      | MutexG ↦ (λ l. (refl, refl), λ a b c d e. (refl, refl))
-      | MutexL ↦ (λ l. (refl, refl), λ a b c d e. (refl, refl))
-      | OpenLine ↦ (λ l. (refl, refl), λ a b c d e. (refl, refl))
-      | GuestLine ↦ (λ l. (refl, refl), λ a b c d e. (refl, refl))
-      | TaskLine ↦ (λ l. (refl, refl), λ a b c d e. (refl, refl))
-      | RunLine ↦ (λ l. (refl, refl), λ a b c d e. (refl, refl))
-      | LockLine ↦ (λ l. (refl, refl), λ a b c d e. (refl, refl))
-      | EndLine ↦ (λ l. (refl, refl), λ a b c d e. (refl, refl))
-      | AskLine ↦ (λ l. (refl, refl), λ a b c d e. (refl, refl))
-      | FreeLine ↦ (λ l. (refl, refl), λ a b c d e. (refl, refl))
-      | UseLine ↦ (λ l. (refl, refl), λ a b c d e. (refl, refl))
-      | TopLine ↦ (λ l. (refl, refl), λ a b c d e. (refl, refl))
-      | ShowLine ↦ (λ l. (refl, refl), λ a b c d e. (refl, refl))
+      | PlanLine ↦ λ l. (refl, refl)
+      | PolicyPO ↦ λ l. (refl, refl)
+      | PolicyPN ↦ λ l. (refl, refl)
+      | PolicyDO ↦ λ l. (refl, refl)
+      | PolicyDN ↦ λ l. (refl, refl)
+      | VcpuLine ↦ λ l. (refl, refl)
+      | MutexG ↦ λ l. (refl, refl)
+      | MutexL ↦ λ l. (refl, refl)
+      | OpenLine ↦ λ l. (refl, refl)
+      | GuestLine ↦ λ l. (refl, refl)
+      | TaskLine ↦ λ l. (refl, refl)
+      | RunLine ↦ λ l. (refl, refl)
+      | LockLine ↦ λ l. (refl, refl)
+      | EndLine ↦ λ l. (refl, refl)
+      | AskLine ↦ λ l. (refl, refl)
+      | FreeLine ↦ λ l. (refl, refl)
+      | UseLine ↦ λ l. (refl, refl)
+      | TopLine ↦ λ l. (refl, refl)
+      | ShowLine ↦ λ l. (refl, refl)
     ]
-
-pub written-code : (k : Kind) (a b c d e : ℕ) → written (shape k) (numsOf k a b c d e) ≡ writtenBy (size (shape k)) a b c d e
-written-code k a b c d e = read-kind k .1 a b c d e .0
-
-pub unwritten-code : (k : Kind) (a b c d e : ℕ) → unwritten (numsOf k a b c d e) ≡ unwrittenBy (size (shape k)) a b c d e
-unwritten-code k a b c d e = read-kind k .1 a b c d e .1
 
 -- a line of a kind: its tabs, and its numbers
 module _ (l : List ℕ) (k : Kind) (h : kindIn kinds (pieces tab l) ≡ Is k) where
@@ -102,14 +92,14 @@ module _ (l : List ℕ) (k : Kind) (h : kindIn kinds (pieces tab l) ≡ Is k) wh
 
   -- the numbers of a line are as many of five as its kind has
   pub numbers-nums : numbers 1 (shape k) (pieces tab l) ≡ asNums k (numbers 1 (shape k) (pieces tab l))
-  numbers-nums = rw line-numbers (read-kind k .0 l .1)
+  numbers-nums = rw line-numbers (read-kind k l .1)
 
   said-kind :
       saidAs (Is k) (numbers 1 (shape k) (pieces tab l))
       ≡ saidBy (count tab l) (size (shape k)) (Is k) (field tab 1 l) (field tab 2 l) (field tab 3 l) (field tab 4 l) (field tab 5 l)
   said-kind =
       let n : count tab l ≡ pred (length (shape k)) = omega (arith, forms) in
-      rw (line-numbers, n) (read-kind k .0 l .0)
+      rw (line-numbers, n) (read-kind k l .0)
 
 said-nothing : (c : ℕ) (x y z p q : List ℕ) → saidAs Nothing [] ≡ saidBy c 0 Nothing x y z p q
 unfolding saidBy when

@@ -1,12 +1,12 @@
--- `text_lines::size_of` meets its contract: each arm knows its kind.
+-- `text_written::size_of` meets its contract: each arm knows its kind.
 use mathlib.Core.Path.{ap, sym}
 use Prim.Native.Nat.{ℕ}
 use borrow.Author.Needs.{needs}
 use Rattle.plan.specs.declared.Kind.{Kind}
 use Rattle.plan.specs.Line.{shape}
 use Rattle.plan.specs.Line.{size}
-use Rattle.text_lines.proofs.size_of.Statement.{statement}
-use Rattle.text_lines.proofs.size_of.Tie as tie
+use Rattle.text_written.proofs.size_of.Statement.{statement}
+use Rattle.text_written.proofs.size_of.Tie as tie
 
 abbrev sized : Kind → ℕ
 sized k = size (shape k)

@@ -1,8 +1,8 @@
--- `text_lines::unwritten_of` meets its contract.
+-- `text_written::unwritten_of` meets its contract.
 use borrow.Author.Needs.{needs}
-use Rattle.text_lines.proofs.Laws.{unwritten-told}
-use Rattle.text_lines.proofs.unwritten_of.Statement.{statement}
-use Rattle.text_lines.proofs.unwritten_of.Tie as tie
+use Rattle.text_written.specs.CodeLaws.{unwritten-told}
+use Rattle.text_written.proofs.unwritten_of.Statement.{statement}
+use Rattle.text_written.proofs.unwritten_of.Tie as tie
 
 returns : tie.Need-returns
 returns c =

@@ -1,10 +1,10 @@
--- `text_lines::written_of` meets its contract.
+-- `text_written::written_of` meets its contract.
 use mathlib.Core.Path.{ap, sym, _∙_}
 use borrow.Author.Needs.{needs}
-use Rattle.text_lines.specs.Code.{writtenBy}
-use Rattle.text_lines.specs.SaidLaws.{written-code}
-use Rattle.text_lines.proofs.written_of.Statement.{statement}
-use Rattle.text_lines.proofs.written_of.Tie as tie
+use Rattle.text_written.specs.Code.{writtenBy}
+use Rattle.text_written.specs.CodeLaws.{written-code}
+use Rattle.text_written.proofs.written_of.Statement.{statement}
+use Rattle.text_written.proofs.written_of.Tie as tie
 
 returns : tie.Need-returns
 unfolding writtenBy

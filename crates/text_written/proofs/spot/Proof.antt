@@ -1,9 +1,9 @@
--- `text_lines::spot` meets its contract.
+-- `text_written::spot` meets its contract.
 use borrow.Author.Tests.{lt-ltb, le-ltb}
 use Rattle.laws.specs.Choice.{when}
-use Rattle.text_lines.specs.Code.{spotOf}
-use Rattle.text_lines.proofs.spot.Statement.{statement}
-use Rattle.text_lines.proofs.spot.Tie as tie
+use Rattle.text_written.specs.Code.{spotOf}
+use Rattle.text_written.proofs.spot.Statement.{statement}
+use Rattle.text_written.proofs.spot.Tie as tie
 
 pub spot-spec : {M : Type 1} → statement M
 unfolding spotOf when
