@@ -208,7 +208,7 @@ module _ (r : Run) (vs : List Vcpu) (t : List ℕ) where
   abbrev clear : ℕ → Bool
   clear i = taskAt (r .seen .guests) (r .seen .hosted) (r .seen .owners) (r .seen .opens) t vs i
 
-  -- after the first i + 1, where b says if those before had a fault
+  -- after the first i + 1 tasks, where b says that no line so far is at fault
   abbrev reached-by : ℕ → Bool → Run
   reached-by i b = task (r .seen) t i b (hostOf vs t i) (suc i)
 

@@ -41,12 +41,6 @@ module _ (t : List ℕ) (n v : ℕ) where
   unfolding guestFor
   guest-none h l = sym (ap (λ (r : Vcpu). r .guest) (first-none (named v) (vcpuOf []) (rows n (vcpuRow t)) (sym (lacking-all h l))))
 
--- whether a task begins a section, from the guests of its VCPU and of the one before
-pub begins-told :
-    (vs : List Vcpu) (t : List ℕ) (i : ℕ) {p x y : ℕ} → p ≡ i - 1 → y ≡ hostOf vs t p → x ≡ hostOf vs t i → (eqb i 0 || not (eqb x y)) ≡ begins vs t i
-unfolding begins
-begins-told vs t i e f g = rw (g, f, e)
-
 -- a task of the VCPU of the task before it has that one's guest
 pub host-kept :
     (vs : List Vcpu) (t : List ℕ) (i : ℕ) {p v w f : ℕ} → p ≡ i - 1 → v ≡ cell t taskWidth i 0 → w ≡ cell t taskWidth p 0 → f ≡ lastAt vs t i →
@@ -57,7 +51,7 @@ host-kept vs t (suc i) {v = v} {w} e a b h k =
     let z : suc i - 1 ≡ i = omega arith in
     h ∙ ap (guestFor vs) (sym (sym a ∙ eqb-true v w (both-right (leb 1 (suc i)) (eqb v w) k) ∙ b ∙ ap (λ q. cell t taskWidth q 0) (e ∙ z)))
 
--- whether a task begins a section, and the guest of the section before the next, from its own guest and that of the section before it
+-- whether a task begins a section, and the guest before the next task, from its own guest and that of the task before it
 module _ (vs : List Vcpu) (t : List ℕ) where
   pub begins-after : (i : ℕ) {g f : ℕ} {b : Bool} → f ≡ lastAt vs t i → g ≡ hostOf vs t i → b ≡ (eqb i 0 || not (eqb g f)) → b ≡ begins vs t i
   unfolding begins

@@ -15,7 +15,7 @@ hostOf vs t i = guestFor vs (cell t taskWidth i 0)
 unfoldable pub begins : List Vcpu → List ℕ → ℕ → Bool
 begins vs t i = eqb i 0 || not (eqb (hostOf vs t i) (hostOf vs t (i - 1)))
 
--- the guest of the section before task i, 0 before the first
+-- the guest of the task before task i, 0 before the first
 abbrev pub lastAt : List Vcpu → List ℕ → ℕ → ℕ
 lastAt vs t zero = 0
 lastAt vs t (suc i) = hostOf vs t i

@@ -49,3 +49,7 @@ tidy-at t n i h l = all-found (tidy t) (λ k. k) n i l h
 pub tidy-all : (t : List ℕ) (n : ℕ) → ((i : ℕ) → i < n → tidy t i ≡ true) → allTidy t n ≡ true
 unfolding allTidy
 tidy-all t n h = each-all (tidy t) (rows n (λ k. k)) (each-rows (λ i. tidy t i ≡ true) n (λ k. k) h)
+
+-- each task has few locks
+pub few-locks : (t : List ℕ) (n : ℕ) → allTidy t n ≡ true → (i : ℕ) → i < n → cell t taskWidth i 4 ≤ maxLocks
+few-locks t n h i l = tidy-exactly t i .0 (tidy-at t n i h l) .0

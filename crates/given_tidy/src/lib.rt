@@ -56,24 +56,7 @@ pub fn prior(i: usize) -> usize
     if i == 0 { 0 } else { i - 1 }
 }
 
-// The guest of task i.
-pub fn host_of(vt: &[u64], n: usize, t: &[u64], i: usize) -> u64
-    requires { ⌜ (n ≤ tests.mostRows) × (i ≤ tests.mostRows) ⌝ }
-    ensures { λ r. ⌜ r ≡ hosts.hostOf (rows n (layout.vcpuRow (now (vt .entry)))) (now (t .entry)) i ⌝ }
-{
-    guest_in(vt, n, cell(t, TASK_WIDTH, i, 0))
-}
-
-// Is task i the first, or its guest another than that of the task before it?
-pub fn begins(vt: &[u64], n: usize, t: &[u64], i: usize) -> bool
-    requires { ⌜ (n ≤ tests.mostRows) × (i ≤ tests.mostRows) ⌝ }
-    ensures { λ r. ⌜ r ≡ hosts.begins (rows n (layout.vcpuRow (now (vt .entry)))) (now (t .entry)) i ⌝ }
-{
-    let last = host_of(vt, n, t, prior(i));
-    (i == 0) | !(host_of(vt, n, t, i) == last)
-}
-
-// The guest of task i, where `last` is the guest of the section before it: the VCPUs are searched only for another one than the task before has.
+// The guest of task i, where `last` is that of the task before it, 0 before the first: the VCPUs are searched only for another one than the task before has.
 pub fn host_after(vt: &[u64], n: usize, t: &[u64], i: usize, last: u64) -> u64
     requires { ⌜ (n ≤ tests.mostRows) × (i ≤ tests.mostRows) × (last ≡ hosts.lastAt (rows n (layout.vcpuRow (now vt))) (now t) i) ⌝ }
     ensures { λ r. ⌜ r ≡ hosts.hostOf (rows n (layout.vcpuRow (now (vt .entry)))) (now (t .entry)) i ⌝ }
@@ -87,7 +70,7 @@ pub fn host_after(vt: &[u64], n: usize, t: &[u64], i: usize, last: u64) -> u64
     }
 }
 
-// Does task i begin a section, where `guest` is its guest and `last` that of the section before it?
+// Does task i begin a section, where `guest` is its guest and `last` that of the task before it?
 pub fn begins_after(i: usize, guest: u64, last: u64) -> bool
     ensures { λ r. ⌜ r ≡ (eqb i 0 || not (eqb guest last)) ⌝ }
 {

@@ -8,7 +8,7 @@ use Rattle.laws.specs.RowLaws.{passed-none, passed-more, passed-out, passed-all
 use Rattle.plan.specs.Plan.{Vcpu}
 use Rattle.plan_tables.specs.Layout.{vcpuRow}
 use Rattle.given_tidy.specs.Hosts.{hostOf, begins, lastAt}
-use Rattle.given_tidy.specs.TestLaws.{tidy-exactly, tidy-at}
+use Rattle.given_tidy.specs.TestLaws.{few-locks}
 use Rattle.given_tidy.specs.GuestLaws.{begins-after, last-next}
 use Rattle.given_tasks.specs.Clear.{taskClear, taskAt, tasksClear}
 use Rattle.given_tasks.proofs.tasks_clear.Statement.{statement}
@@ -34,7 +34,7 @@ task-clear-requires : tie.Need-task-clear-requires Inv-loop μ-loop
 task-clear-requires c κs =
     let s = c .before .before .before .before .before .before .before .before .before .before in
     let i = c .before .before .before .loop .i in
-    (search needs, tidy-exactly (s .args .t .now) i .0 (tidy-at (s .args .t .now) (s .args .m) i (s .pre .2) (c .before .before .loop-test .taken)) .0)
+    (search needs, few-locks (s .args .t .now) (s .args .m) (s .pre .2) i (c .before .before .loop-test .taken))
 
 returns : tie.Need-returns Inv-loop μ-loop
 unfolding tasksClear

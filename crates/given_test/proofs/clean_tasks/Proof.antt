@@ -1,20 +1,10 @@
-use Prim.Native.Nat.{ℕ, _≤_, _<_}
-use mathlib.Core.Path.{_≡_}
-use mathlib.Core.List.{List}
-use mathlib.Core.Bool.{true}
 use borrow.Author.Needs.{needs}
 use Rattle.laws.specs.Rows.{rows}
-use Rattle.plan.specs.Limits.{maxLocks}
-use Rattle.plan_tables.specs.Layout.{taskWidth, cell, vcpuRow}
-use Rattle.given_tidy.specs.Tests.{allTidy}
-use Rattle.given_tidy.specs.TestLaws.{tidy-exactly, tidy-at}
+use Rattle.plan_tables.specs.Layout.{vcpuRow}
+use Rattle.given_tidy.specs.TestLaws.{few-locks}
 use Rattle.given_test.specs.TaskLaws.{clean-told, clean-missed}
 use Rattle.given_test.proofs.clean_tasks.Statement.{statement}
 use Rattle.given_test.proofs.clean_tasks.Tie as tie
-
--- each task has few locks
-few-locks : (t : List ℕ) (m : ℕ) → allTidy t m ≡ true → (i : ℕ) → i < m → cell t taskWidth i 4 ≤ maxLocks
-few-locks t m h i l = tidy-exactly t i .0 (tidy-at t m i h l) .0
 
 returns : tie.Need-returns
 returns c =

@@ -6,7 +6,7 @@ use Rattle.laws.specs.Rows.{rows}
 use Rattle.plan_tables.specs.Layout.{vcpuRow}
 use Rattle.given_tidy.specs.Hosts.{lastAt}
 use Rattle.given_tidy.specs.GuestLaws.{begins-after, last-next}
-use Rattle.given_tidy.specs.TestLaws.{tidy-exactly, tidy-at}
+use Rattle.given_tidy.specs.TestLaws.{few-locks}
 use Rattle.given_test.specs.Feed.{taskLines}
 use Rattle.text_told.specs.Told.{space-as, told-as}
 use Rattle.write_rows.specs.Rows.{ToldRows}
@@ -34,7 +34,7 @@ task-requires c κs =
     let i = l .i in
     let h = c .before .before .before .loop-test .taken in (
       search needs,
-      tidy-exactly (a .t .now) i .0 (tidy-at (a .t .now) (a .m) i (s .pre .2) h) .0,
+      few-locks (a .t .now) (a .m) (s .pre .2) i h,
       space-as (task-told vs (a .t .now) i (begins-after vs (a .t .now) i (l .inv .1) g (c .before .begins-after .ensures)) g) (space-row (l .inv .0) h (s .pre .3)),
     )
 
