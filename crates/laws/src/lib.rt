@@ -1,1 +1,3 @@
 // Laws without a word of the domain: this crate has definitions and proofs only, in specs/.
+#![tactic(auto)]
+
