@@ -9,8 +9,8 @@ loop-i-init c = tallied_none
 pub loop-i-preserved : goal.loop-i-preserved
 loop-i-preserved c =
     elim c.if-s-i.branch [
-      then-s-i w ↦ tallied_more c.loop-i.invariant c.loop-i-test.true w.if-s-i.true w.n-is
-    | else-s-i w ↦ tallied_skip c.loop-i.invariant c.loop-i-test.true w.if-s-i.false w.n-is
+      | then-s-i w ↦ tallied_more c.loop-i.invariant c.loop-i-test.true w.if-s-i.true w.n-is
+      | else-s-i w ↦ tallied_skip c.loop-i.invariant c.loop-i-test.true w.if-s-i.false w.n-is
     ]
 
 pub returns : goal.returns
