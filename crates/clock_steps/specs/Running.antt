@@ -43,7 +43,7 @@ pub record Running (T : Timing) (b : Board) (d : List ℕ) : Type 0 where
 pub after_shaped : (F : Facts) {b : Board} → Shaped b → (es : List Event) → Shaped (board_after F b es)
 unfolding board_by
 after_shaped F s [] = s
-after_shaped F s (e ∷ es) = after_shaped F (step_shaped F e s) es
+after_shaped F {b = b} s (e ∷ es) = after_shaped F {b = (step F b e).board} (step_shaped F e s) es
 
 -- events that keep the tasks in step keep the state
 pub still_running : {T : Timing} {b : Board} {d : List ℕ} → Paced T → Running T b d → (es : List Event) → InStepOn T (board_after T.facts b es) (done_of d) →

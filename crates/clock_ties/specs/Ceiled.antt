@@ -174,7 +174,7 @@ step_ceiled {F} {b} f s g h (Show v n) = at_fault (show_fault F v n)
 pub after_ceiled : {F : Facts} {b : Board} → Fair F → Shaped b → good F b ≡ true → Ceiled F b → (es : List Event) → Ceiled F (board_after F b es)
 unfolding board_by
 after_ceiled f s g h [] = h
-after_ceiled {F} f s g h (e ∷ es) = after_ceiled f (step_shaped F e s) (step_keeps f s g e) (step_ceiled f s g h e) es
+after_ceiled {F = F} {b = b} f s g h (e ∷ es) = after_ceiled {b = (step F b e).board} f (step_shaped F e s) (step_keeps f s g e) (step_ceiled f s g h e) es
 
 -- every board of a run from a fresh board has it
 pub run_ceiled : {F : Facts} → Fair F → (es : List Event) → Ceiled F (board_after F (fresh F) es)

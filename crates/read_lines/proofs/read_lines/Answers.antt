@@ -2,6 +2,7 @@
 use Prim.Native.Nat.{◌-◌}
 use mathlib.Core.Path.{refl, sym, ◌∙◌}
 use native.Mathlib.Omega.{arith}
+use borrow.Author.Tests.{not-true, not-false}
 use Rattle.read_fill.specs.Fill.{vcpu_put, mutex_put, open_put, task_put}
 use Rattle.read_answer.specs.LoopLaws.{read_fits, read_few, read_end, read_bad, read_next, left_end, left_bad, left_next}
 use Rattle.read_lines.proofs.read_lines.Goals as goal
@@ -20,7 +21,7 @@ returns-then-not-l c =
     let s = c.args.src.now in
     let l = c.loop-r in
     let x = c.read_line-r in
-    let h = c.if-not-l.true in
+    let h = not-true x.result.line.ended c.if-not-l.true in
     let y = c.ready in
     let z = c.finish in record { value = read_end s l.at l.n x.result x.ensures l.t l.c y.result z.result h y.ensures z.ensures ∙ sym l.invariant.6; vt_after = left_end s l.at l.n x.result x.ensures l.t l.c vcpu_put l.vt h ∙ sym l.invariant.7; mt_after = left_end s l.at l.n x.result x.ensures l.t l.c mutex_put l.mt h ∙ sym l.invariant.8; ot_after = left_end s l.at l.n x.result x.ensures l.t l.c open_put l.ot h ∙ sym l.invariant.9; kt_after = left_end s l.at l.n x.result x.ensures l.t l.c task_put l.kt h ∙ sym l.invariant.10 }
 
@@ -29,7 +30,7 @@ returns-then-not-is_clear c =
     let s = c.args.src.now in
     let l = c.loop-r in
     let x = c.read_line-r in
-    let h = c.if-not-l.false in
+    let h = not-false x.result.line.ended c.if-not-l.false in
     let f = c.fault_in-f in
     let y = c.is_clear in
     let q = sym y.ensures ∙ c.if-not-is_clear.true in
@@ -40,7 +41,7 @@ pub loop-r-smaller : goal.loop-r-smaller
 loop-r-smaller c =
     let l = c.loop-r in
     let x = c.read_line-r in
-    let z = read_fits c.args.src.now l.at l.n x.result x.ensures l.t l.c c.if-not-l.false in
+    let z = read_fits c.args.src.now l.at l.n x.result x.ensures l.t l.c (not-false x.result.line.ended c.if-not-l.false) in
     omega (arith, z.0, z.1)
 
 pub loop-r-preserved : goal.loop-r-preserved
@@ -48,7 +49,7 @@ loop-r-preserved c =
     let s = c.args.src.now in
     let l = c.loop-r in
     let x = c.read_line-r in
-    let h = c.if-not-l.false in
+    let h = not-false x.result.line.ended c.if-not-l.false in
     let f = c.fault_in-f in
     let y = c.is_clear in
     let q = sym y.ensures ∙ c.if-not-is_clear.false in
@@ -57,10 +58,10 @@ loop-r-preserved c =
     let v = c.tally_after-v in (
       (read_fits s l.at l.n x.result x.ensures l.t l.c h).1,
       read_few s l.at l.n x.result x.ensures l.t l.c f.result h f.ensures q l.invariant.1,
-      omega (arith, c.vt-1.given, l.invariant.2),
-      omega (arith, c.mt-1.given, l.invariant.3),
-      omega (arith, c.ot-1.given, l.invariant.4),
-      omega (arith, c.kt-1.given, l.invariant.5),
+      omega (arith, l.invariant.2),
+      omega (arith, l.invariant.3),
+      omega (arith, l.invariant.4),
+      omega (arith, l.invariant.5),
       l.invariant.6 ∙ read_next s l.at l.n x.result x.ensures l.t l.c f.result h f.ensures u.result v.result q u.ensures v.ensures,
       l.invariant.7 ∙ left_next s l.at l.n x.result x.ensures l.t l.c vcpu_put l.vt f.result h f.ensures u.result v.result _ q u.ensures v.ensures p.vt_after,
       l.invariant.8 ∙ left_next s l.at l.n x.result x.ensures l.t l.c mutex_put l.mt f.result h f.ensures u.result v.result _ q u.ensures v.ensures p.mt_after,
