@@ -182,4 +182,4 @@ events_same f s g w j [] h none = same_stay
 events_same {F} {b} f s g w j (e ∷ es) h none =
     let a = neither_left (hands_on (step F b e).answer) _ none in
     let z = neither_right (hands_on (step F b e).answer) _ none in
-    same_then (step_same f s w j g e h.0 a) (events_same f (step_shaped F e s) (step_keeps f s g e) w j es h.1 z)
+    same_then (step_same f s w j g e h.0 a) (events_same {b = (step F b e).board} f (step_shaped F e s) (step_keeps f s g e) w j es h.1 z)

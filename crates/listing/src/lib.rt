@@ -1,3 +1,2 @@
 // What `verdict` prints, as definitions in specs/Listing.
 #![tactic(auto)]
-
