@@ -1,3 +1,2 @@
 // A text asked for of lent tables: this crate has definitions and proofs only, in specs/.
 #![tactic(auto)]
-

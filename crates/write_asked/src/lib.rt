@@ -1,3 +1,2 @@
 // A plan's bytes asked for of lent tables: this crate has definitions and proofs only, in specs/.
 #![tactic(auto)]
-
