@@ -1,16 +1,11 @@
-use borrow.Author.Rules.{rules}
 use mathlib.Core.Path.{refl, ap, ◌∙◌}
 use mathlib.Core.Bool.{◌&&◌}
 use lib.Dec.{ltb}
 use Rattle.board_seats.specs.Seats.{is_v, is_n, is_m, lock_at}
 use Rattle.board_seats.specs.SeatLaws.{when_test}
-use Rattle.board_seats.proofs.lists.Statement.{statement}
-use Rattle.board_seats.proofs.lists.Tie as tie
+use Rattle.board_seats.proofs.lists.Goals as goal
 
-returns : tie.Need-returns
+pub returns : goal.returns
 returns c =
-    let a = c.before.before.args in
+    let a = c.args in
     ap (ltb 0) c.lock.ensures ∙ when_test (ltb 0) ((is_v a.v && is_n a.n) && is_m a.m) (lock_at a.view.now a.v a.n a.m) refl
-
-pub lists-spec : {M : Type 1} → statement M
-lists-spec = tie.close (tie.spec (λ c κs. search rules) returns)
