@@ -1,0 +1,12 @@
+use mathlib.Core.Path.{sym, ◌∙◌}
+use Rattle.board_rules.specs.BoardLaws.{free_by}
+use Rattle.board_rules.specs.Lent.{board_of}
+use Rattle.board_rules.proofs.Board.free_in.Goals as goal
+
+pub free_sure-requires : goal.free_sure-requires
+free_sure-requires c =
+    record { stopped_len = c.requires; m_value = sym c.free_fault-fault.ensures ∙ c.in-Clear.is }
+
+pub returns-in-Bad : goal.returns-in-Bad
+returns-in-Bad c = λ os. let a = c.args in
+    sym (free_by a.policy a.choice a.view.now (board_of a.left.now os a.stopped.now a.holder.now a.waits.now) a.v a.n a.m (sym c.free_fault-fault.ensures ∙ c.in-Bad.is))

@@ -1,0 +1,11 @@
+use mathlib.Core.Path.{refl, ap, ◌∙◌}
+use mathlib.Core.Bool.{◌&&◌}
+use lib.Dec.{ltb}
+use Rattle.board_seats.specs.Seats.{is_v, is_n, is_m, lock_at}
+use Rattle.board_seats.specs.SeatLaws.{when_test}
+use Rattle.board_seats.proofs.lists.Goals as goal
+
+pub returns : goal.returns
+returns c =
+    let a = c.args in
+    ap (ltb 0) c.lock.ensures ∙ when_test (ltb 0) ((is_v a.v && is_n a.n) && is_m a.m) (lock_at a.view.now a.v a.n a.m) refl
