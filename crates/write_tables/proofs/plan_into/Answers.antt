@@ -3,6 +3,8 @@ use Rattle.plan.specs.Text.{text}
 use Rattle.plan_tables.specs.Layout.{lent}
 use Rattle.plan_tables.specs.Given.{plan_in}
 use Rattle.write_tables.specs.Parts.{none_told, room_told, whole_told}
+use mathlib.Core.Bool.{not}
+use mathlib.Core.Path.{ap}
 use Rattle.write_tables.proofs.plan_into.Goals as goal
 
 pub returns-then-not-fits : goal.returns-then-not-fits
@@ -10,18 +12,18 @@ returns-then-not-fits c =
     let a = c.args in
     let x = text (plan_in a.r (lent a.vt.now a.mt.now a.ot.now a.ts.now)) in
     let f = c.fits2.ensures in
-    none_told x f.0 f.1 c.if-not-fits.true
+    none_told x f.0 f.1 (ap not c.if-not-fits.true)
 
 pub plan_told-n-requires : goal.plan_told-n-requires
 plan_told-n-requires c =
     let a = c.args in
     let x = text (plan_in a.r (lent a.vt.now a.mt.now a.ot.now a.ts.now)) in
     let f = c.fits2.ensures in
-    (c.requires, λ e. room_told x f.0 f.1 c.if-not-fits.false)
+    (c.requires, λ e. room_told x f.0 f.1 (ap not c.if-not-fits.false))
 
 pub returns : goal.returns
 returns c =
     let a = c.args in
     let x = text (plan_in a.r (lent a.vt.now a.mt.now a.ot.now a.ts.now)) in
     let f = c.fits2.ensures in
-    whole_told x f.0 f.1 c.if-not-fits.false c.plan_told-n.ensures
+    whole_told x f.0 f.1 (ap not c.if-not-fits.false) c.plan_told-n.ensures
