@@ -4,30 +4,30 @@ use native.Mathlib.Omega.{arith}
 use Rattle.answers.proofs.answers.Goals as goal
 
 pub fill_vcpus-requires : goal.fill_vcpus-requires
-fill_vcpus-requires c = let p = c.requires in (p.0.0, p.0.1.tasks, p.0.1.vcpus, p.1.0, p.1.3)
+fill_vcpus-requires c = let p = c.requires in (p.fit.0, p.fit.1.tasks, p.fit.1.vcpus, p.in_bounds.0, p.in_bounds.3)
 
 pub fill_waits-requires : goal.fill_waits-requires
-fill_waits-requires c = let p = c.requires in (p.0.0, p.0.1.responses, p.0.1.room, omega (arith, c.fill_vcpus.auto.rows, p.1.0), p.1.4)
+fill_waits-requires c = let p = c.requires in (p.fit.0, p.fit.1.responses, p.fit.1.room, omega (arith, c.fill_vcpus.auto.rows, p.in_bounds.0), p.in_bounds.4)
 
 pub fill_sums-requires : goal.fill_sums-requires
-fill_sums-requires c = let p = c.requires in (p.0.0, c.fill_waits.ensures.1, p.1.1)
+fill_sums-requires c = let p = c.requires in (p.fit.0, c.fill_waits.ensures.1, p.in_bounds.1)
 
 pub fill_flags-requires : goal.fill_flags-requires
-fill_flags-requires c = let p = c.requires in (p.0.0, c.fill_waits.ensures.1, p.1.2)
+fill_flags-requires c = let p = c.requires in (p.fit.0, c.fill_waits.ensures.1, p.in_bounds.2)
 
 pub fill_tasks-requires : goal.fill_tasks-requires
 fill_tasks-requires c = let p = c.requires in (
-  p.0.0,
-  p.0.1.tasks,
-  p.0.1.blockings,
+  p.fit.0,
+  p.fit.1.tasks,
+  p.fit.1.blockings,
   record {
-    waits_room = omega (arith, c.fill_sums.auto.ws, p.1.1);
-    flags_room = omega (arith, c.fill_flags.auto.fs, p.1.2);
+    waits_room = omega (arith, c.fill_sums.auto.ws, p.in_bounds.1);
+    flags_room = omega (arith, c.fill_flags.auto.fs, p.in_bounds.2);
     waits = c.fill_sums.ensures;
     flags = c.fill_flags.ensures;
   },
-  omega (arith, c.fill_waits.auto.rows, c.fill_vcpus.auto.rows, p.1.0),
-  p.1.5,
+  omega (arith, c.fill_waits.auto.rows, c.fill_vcpus.auto.rows, p.in_bounds.0),
+  p.in_bounds.5,
 )
 
 pub shape_of-rows : goal.shape_of-rows

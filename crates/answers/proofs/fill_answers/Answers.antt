@@ -4,7 +4,7 @@ use borrow.Author.Rules.{rules}
 use Rattle.answers.proofs.fill_answers.Goals as goal
 
 pub answers-requires : goal.answers-requires
-answers-requires c = let p = c.requires in ((p.0, c.stored.ensures), (search rules, search rules, search rules, p.3, p.4, p.5))
+answers-requires c = let p = c.requires in record { fit = (p.0, c.stored.ensures); in_bounds = (search rules, search rules, search rules, p.3, p.4, p.5) }
 
 pub shape_of-tf : goal.shape_of-tf
 shape_of-tf c = c.stored.auto.tf

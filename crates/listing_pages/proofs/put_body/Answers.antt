@@ -17,7 +17,7 @@ pub put_tail-requires : goal.put_tail-requires
 put_tail-requires c = let h = c.requires in (h.0, h.1, h.2, h.3, rest_fits (vcpus_joins _) h.4 c.put_vcpus-k.ensures)
 
 pub overflow_add-result : goal.overflow_add-result
-overflow_add-result c = let q = c.well-formed in let z = both_fit (vcpus_joins _) c.requires.4 c.put_vcpus-k.ensures c.put_tail.ensures in search rules
+overflow_add-result c = let q = c.well_formed in let z = both_fit (vcpus_joins _) c.requires.4 c.put_vcpus-k.ensures c.put_tail.ensures in search rules
 
 pub returns : goal.returns
 returns c = let h = c.requires in both_wrote (vcpus_joins _) h.4 c.put_vcpus-k.ensures c.put_tail.ensures

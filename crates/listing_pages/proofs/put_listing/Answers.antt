@@ -17,7 +17,7 @@ pub put_body-requires : goal.put_body-requires
 put_body-requires c = let h = c.requires in (h.0, h.1, h.2, h.3, rest_fits (listing_joins _) h.4 c.head_line-k.ensures)
 
 pub overflow_add-result : goal.overflow_add-result
-overflow_add-result c = let q = c.well-formed in let z = both_fit (listing_joins _) c.requires.4 c.head_line-k.ensures c.put_body.ensures in search rules
+overflow_add-result c = let q = c.well_formed in let z = both_fit (listing_joins _) c.requires.4 c.head_line-k.ensures c.put_body.ensures in search rules
 
 pub returns : goal.returns
 returns c = let h = c.requires in both_wrote (listing_joins _) h.4 c.head_line-k.ensures c.put_body.ensures

@@ -17,7 +17,7 @@ pub all_line-requires : goal.all_line-requires
 all_line-requires c = let h = c.requires in fits_as (all_text_law _ c.all_fit-fits.ensures) (rest_fits (tasks_joins _) h.4 c.put_tasks-k.ensures)
 
 pub overflow_add-result : goal.overflow_add-result
-overflow_add-result c = let q = c.well-formed in let z = both_fit (tasks_joins _) c.requires.4 c.put_tasks-k.ensures (wrote_as (all_text_law _ c.all_fit-fits.ensures) c.all_line.ensures) in search rules
+overflow_add-result c = let q = c.well_formed in let z = both_fit (tasks_joins _) c.requires.4 c.put_tasks-k.ensures (wrote_as (all_text_law _ c.all_fit-fits.ensures) c.all_line.ensures) in search rules
 
 pub returns : goal.returns
 returns c = let h = c.requires in both_wrote (tasks_joins _) h.4 c.put_tasks-k.ensures (wrote_as (all_text_law _ c.all_fit-fits.ensures) c.all_line.ensures)

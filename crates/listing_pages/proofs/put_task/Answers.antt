@@ -17,7 +17,7 @@ pub task_line-requires : goal.task_line-requires
 task_line-requires c = let h = c.requires in fits_as (task_text_law h.2 _ h.3 c.task_cell-v.ensures.is c.task_cell-n.ensures.is c.task_answer_at-a.ensures) (rest_fits (task_joins _ _) h.4 c.put_waits-k.ensures)
 
 pub overflow_add-result : goal.overflow_add-result
-overflow_add-result c = let q = c.well-formed in let z = both_fit (task_joins _ _) c.requires.4 c.put_waits-k.ensures (wrote_as (task_text_law c.requires.2 _ c.requires.3 c.task_cell-v.ensures.is c.task_cell-n.ensures.is c.task_answer_at-a.ensures) c.task_line.ensures) in search rules
+overflow_add-result c = let q = c.well_formed in let z = both_fit (task_joins _ _) c.requires.4 c.put_waits-k.ensures (wrote_as (task_text_law c.requires.2 _ c.requires.3 c.task_cell-v.ensures.is c.task_cell-n.ensures.is c.task_answer_at-a.ensures) c.task_line.ensures) in search rules
 
 pub returns : goal.returns
 returns c = let h = c.requires in both_wrote (task_joins _ _) h.4 c.put_waits-k.ensures (wrote_as (task_text_law h.2 _ h.3 c.task_cell-v.ensures.is c.task_cell-n.ensures.is c.task_answer_at-a.ensures) c.task_line.ensures)

@@ -25,7 +25,7 @@ pub put_task-k-requires : goal.put_task-k-requires
 put_task-k-requires c = let h = c.requires in (h.0, h.1, h.2, h.3.within _ c.loop-i-test.true, filled_fits (task_lines _) (λ k. task_row c.args.ts.now (get_or c.args.order.now k 0)) c.loop-i.invariant c.loop-i-test.true)
 
 pub overflow_add-at : goal.overflow_add-at
-overflow_add-at c = let q = c.well-formed in let h = filled_sum (task_lines _) (λ k. task_row c.args.ts.now (get_or c.args.order.now k 0)) c.loop-i.invariant c.loop-i-test.true c.put_task-k.ensures in search rules
+overflow_add-at c = let q = c.well_formed in let h = filled_sum (task_lines _) (λ k. task_row c.args.ts.now (get_or c.args.order.now k 0)) c.loop-i.invariant c.loop-i-test.true c.put_task-k.ensures in search rules
 
 pub loop-i-preserved : goal.loop-i-preserved
 loop-i-preserved c = filled_more (task_lines _) (λ k. task_row c.args.ts.now (get_or c.args.order.now k 0)) c.loop-i.invariant c.loop-i-test.true c.put_task-k.ensures
