@@ -21,4 +21,4 @@ pub shape_of-out : goal.shape_of-out
 shape_of-out c = c.put_answered.auto.out
 
 pub returns : goal.returns
-returns c = let h = c.put_answered.ensures in record { value = h.0; out_after = h.1 }
+returns c = record { value = c.put_answered.ensures.value; out_after = c.put_answered.ensures.out_after }

@@ -6,7 +6,7 @@ use Rattle.listing_lines.specs.IntoLaws.{tested_room, tested_in, tested_out, ans
 use Rattle.listing_puts.proofs.put_answered.Goals as goal
 
 pub returns-then-not-has_room : goal.returns-then-not-has_room
-returns-then-not-has_room c = answered_as c.no_room.ensures (tested_out (record { is = let h = c.has_room.ensures }) refl c.if-not-has_room.true) in record { value = h.0; out_after = h.1 }
+returns-then-not-has_room c = let h = answered_as c.no_room.ensures (tested_out (record { is = c.has_room.ensures }) refl c.if-not-has_room.true) in record { value = h.0; out_after = h.1 }
 
 pub put_listing-k-requires : goal.put_listing-k-requires
 put_listing-k-requires c =
@@ -16,4 +16,4 @@ put_listing-k-requires c =
     (h.0, h.1, h.2, h.3, room)
 
 pub returns : goal.returns
-returns c = answered_as c.written.ensures (tested_in (record { is = let h = c.has_room.ensures }) refl c.if-not-has_room.false c.put_listing-k.ensures) in record { value = h.0; out_after = h.1 }
+returns c = let h = answered_as c.written.ensures (tested_in (record { is = c.has_room.ensures }) refl c.if-not-has_room.false c.put_listing-k.ensures) in record { value = h.0; out_after = h.1 }
