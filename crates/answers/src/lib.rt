@@ -1,4 +1,6 @@
 // The answers of a whole plan, in lent slices. What stands where is said in specs/Store of `figures_slices`.
+#![tactic(auto)]
+
 ghost use Rattle.std.specs.Prelude.{◌≡◌, ◌*◌, ◌≤◌, length};
 ghost use Rattle.plan_tables.specs.Layout.{over};
 ghost use Rattle.figures.specs.Tabled.{Fit, system_in};

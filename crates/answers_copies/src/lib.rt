@@ -1,4 +1,6 @@
 // A wait that has the answer of an earlier one: which it is, and its answer copied.
+#![tactic(auto)]
+
 ghost use Rattle.std.specs.Prelude.{◌≡◌, ◌+◌, ◌*◌, ◌<◌, ◌≤◌, length};
 ghost use Rattle.search.specs.Row.{row_in, pushed};
 ghost use Rattle.plan_tables.specs.Layout.{lock_row};

@@ -1,4 +1,6 @@
 // The answer of a task, in a lent slice. What stands where is said in specs/Store of `figures_slices`.
+#![tactic(auto)]
+
 ghost use Rattle.std.specs.Prelude.{◌≡◌, ◌+◌, ◌*◌, ◌≤◌, length};
 ghost use Rattle.search.specs.Row.{pushed};
 ghost use Rattle.figures.specs.Kinds.{task_kind, task_ticks, task_rounds};

@@ -1,4 +1,6 @@
 // One row of a plan in lent tables, asked for by its names: a VCPU's, a wait, a section's response. What each answers stands in specs/Asked of `answers_tasks`.
+#![tactic(auto)]
+
 ghost use Rattle.std.specs.Prelude.{◌≡◌, true, ◌<◌};
 ghost use Rattle.plan_tables.specs.Layout.{lent, vcpu_row, task_row};
 ghost use Rattle.figures.specs.Tabled.{Fit, system_in};

@@ -1,4 +1,6 @@
 // A task's row of a plan in lent tables, asked for by its names. What each row answers stands in specs/Asked: 9 first, then 10 for a VCPU, task or place that the plan lacks.
+#![tactic(auto)]
+
 ghost use Rattle.std.specs.Prelude.{◌≡◌, ◌<◌};
 ghost use Rattle.plan_tables.specs.Layout.{lent, task_row};
 ghost use Rattle.figures.specs.Tabled.{Fit, system_in};
@@ -12,21 +14,21 @@ use plan_tables::PlanRecord;
 use search::Answer;
 
 // The answer of a VCPU's or a wait's search, or a refusal.
-#[derive(Drop)]
+#[derive(Clone, Copy)]
 pub enum RowAnswer {
     Row(Answer),
     NoRow(Refusal),
 }
 
 // A task's answer, or a refusal.
-#[derive(Drop)]
+#[derive(Clone, Copy)]
 pub enum TaskRowAnswer {
     TaskRow(TaskAnswer),
     NoTaskRow(Refusal),
 }
 
 // A figure, or a refusal.
-#[derive(Drop)]
+#[derive(Clone, Copy)]
 pub enum FigureAnswer {
     Figure(u64),
     NoFigure(Refusal),

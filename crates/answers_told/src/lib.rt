@@ -1,4 +1,6 @@
 // A plan's answers, each read back from the slices that hold them.
+#![tactic(auto)]
+
 ghost use Rattle.std.specs.Prelude.{◌≡◌, ◌+◌, ◌*◌, ◌≤◌, length};
 ghost use Rattle.laws.specs.Sums.{all};
 ghost use Rattle.laws.specs.Rows.{rows};

@@ -1,4 +1,6 @@
 // The answers of VCPUs and of waits, one after the other into lent slices. What stands where is said in specs/Store of `figures_slices`.
+#![tactic(auto)]
+
 ghost use Rattle.std.specs.Prelude.{◌≡◌, true, ℕ, ◌+◌, ◌*◌, ◌<◌, ◌≤◌, length};
 ghost use Rattle.search.specs.Search.{rounds};
 ghost use Rattle.search.specs.Row.{row_in, pushed};

@@ -1,4 +1,6 @@
 // Reads a plan in plan.tsv and events on standard input, and prints the answer to each event, or the plan's refusal.
+#![tactic(auto)]
+
 use program::Input;
 
 // One byte more than is judged is read, so that a longer input is seen to be longer.

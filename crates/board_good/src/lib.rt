@@ -1,4 +1,6 @@
 // Is a board in order? Tests of its seats, its holders and its waiters, on its arrays and the view of a plan; and the view's budgets and overruns.
+#![tactic(auto)]
+
 ghost use Rattle.std.specs.Prelude.{◌≡◌, ◌≤◌};
 ghost use Rattle.laws.specs.Range.{all_to, list_to};
 ghost use Rattle.board_seats.specs.Seats.{budget_of, overrun_of};

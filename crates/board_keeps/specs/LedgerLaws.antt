@@ -110,7 +110,7 @@ after_balance : {F : Facts} {b : Board} (f : Fair F) → Shaped b → (v t : ℕ
 unfolding board_by answers_by ledger
 after_balance f s v t i h [] = h
 after_balance {F} {b} f s v t i h (e ∷ es) =
-    after_balance f (step_shaped F e s) v (entered v t e (step F b e).answer) i (step_balance f s v t i h e) es
+    after_balance {b = (step F b e).board} f (step_shaped F e s) v (entered v t e (step F b e).answer) i (step_balance f s v t i h e) es
 
 pub ledger_balance : {F : Facts} → Fair F → (v : ℕ) → F.has_vcpu v ≡ true → (es : List Event) →
     ledger v 0 es (answers F (fresh F) es) + left_of (board_after F (fresh F) es) v + over_of (board_after F (fresh F) es) v ≡ F.budget v + F.overrun v

@@ -76,7 +76,7 @@ fresh_good {F} f = sound_good F (fresh F) f (fresh_sound F) (fresh_marked F f.vc
 pub after_good : {F : Facts} {b : Board} → Fair F → Shaped b → good F b ≡ true → (es : List Event) → good F (board_after F b es) ≡ true
 unfolding board_by
 after_good f s g [] = g
-after_good {F} f s g (e ∷ es) = after_good f (step_shaped F e s) (step_keeps f s g e) es
+after_good {F = F} {b = b} f s g (e ∷ es) = after_good {b = (step F b e).board} f (step_shaped F e s) (step_keeps f s g e) es
 
 pub run_good : {F : Facts} → Fair F → (es : List Event) → good F (board_after F (fresh F) es) ≡ true
 run_good {F} f es = after_good f (fresh_shaped F) (fresh_good f) es

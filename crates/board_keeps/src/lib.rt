@@ -1,1 +1,3 @@
 // Theorems on the board's events: this crate has proofs only, in specs/.
+#![tactic(auto)]
+

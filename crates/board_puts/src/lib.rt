@@ -1,4 +1,6 @@
 // What an event writes into a board's arrays, one number each: the mark of a VCPU, the holder of a mutex, the mutex that a task waits for.
+#![tactic(auto)]
+
 ghost use Rattle.std.specs.Prelude.{◌≡◌, ◌-◌, ◌≤◌, length, set};
 ghost use Rattle.board_seats.specs.Seats.{seat};
 ghost use Rattle.board_reserves.specs.Supplies.{next_mark};

@@ -1,4 +1,6 @@
 // The supply of one VCPU, and what ticks leave of it, on a board's arrays and the view of a plan: left, over and stopped by VCPU, holder by mutex.
+#![tactic(auto)]
+
 ghost use Rattle.std.specs.Prelude.{◌≡◌, true, ◌+◌, ◌≤◌, min};
 ghost use Rattle.laws.specs.Choice.{if◌then◌else◌};
 ghost use Rattle.plan.specs.Limits.{max_ticks};

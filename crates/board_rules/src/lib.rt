@@ -1,4 +1,6 @@
 // The lock board. What its types mean, and the rules of its events, stand in specs/.
+#![tactic(auto)]
+
 ghost use Rattle.std.specs.Prelude.{◌≡◌, Bool, false, List, ℕ, ◌≤◌, length};
 ghost use Rattle.plan.specs.declared.Policy.{Policy};
 ghost use Rattle.plan.specs.declared.OverrunChoice.{OverrunChoice};
@@ -16,7 +18,7 @@ use plan::{Fault, OverrunChoice, Policy, Refusal};
 
 // Per VCPU v, at place v - 1: budget left, overrun left, the stopped mark. Per mutex m, at place m - 1: the seat of its holder, 0 where it is free.
 // Per seat, at place seat - 1: the mutex that the task waits for, 0 for none. The seat of task (v, n) is (v - 1) * 8 + n.
-#[derive(Drop)]
+#[derive(Clone, Copy)]
 pub struct Board {
     pub left: [u64; 16],
     pub over: [u64; 16],
@@ -26,7 +28,7 @@ pub struct Board {
 }
 
 // An event of the board.
-#[derive(Drop)]
+#[derive(Clone, Copy)]
 pub enum Event {
     Ask { v: u64, n: u64, m: u64 },
     Free { v: u64, n: u64, m: u64 },
@@ -36,14 +38,14 @@ pub enum Event {
 }
 
 // The task to which a freed mutex, or the mutex of a local waiter, goes.
-#[derive(Drop)]
+#[derive(Clone, Copy)]
 pub enum Next {
     Nobody,
     To { v: u64, n: u64 },
 }
 
 // The answer to an event.
-#[derive(Drop)]
+#[derive(Clone, Copy)]
 pub enum BoardAnswer {
     Granted,
     Waits,
@@ -54,7 +56,7 @@ pub enum BoardAnswer {
 }
 
 // The answer to an event, and the board after it.
-#[derive(Drop)]
+#[derive(Clone, Copy)]
 pub struct Outcome {
     pub answer: BoardAnswer,
     pub board: Board,

@@ -1,4 +1,6 @@
 // Marks, faults and conditions of one VCPU on a board's arrays and the view of a plan: left, over and stopped by VCPU, holder by mutex, waits by seat. What they are stands in specs/Supplies of `board_reserves`.
+#![tactic(auto)]
+
 ghost use Rattle.std.specs.Prelude.{◌≡◌, ◌≤◌};
 ghost use Rattle.laws.specs.Range.{all_to};
 ghost use Rattle.board_reserves.specs.Supplies.{under_p, idle, next_mark, tick_fault, use_fault_at, budget_after, overrun_after, known, busy_at, task_fault, ask_fault_at, free_fault_at, figures_good, mark_good_at, mark_by, vcpu_good_at};

@@ -1,4 +1,6 @@
 // One tick of a VCPU on the board's lent arrays, of a use that is known to have no fault. What an event does stands in specs/Board of `board_rules`.
+#![tactic(auto)]
+
 ghost use Rattle.std.specs.Prelude.{◌≡◌, true, List, ℕ, ◌-◌, ◌<◌, length, get_or};
 ghost use Rattle.board_seats.specs.Seats.{has_vcpu};
 ghost use Rattle.board_reserves.specs.Supplies.{use_fault_at};

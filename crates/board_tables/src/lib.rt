@@ -1,4 +1,6 @@
 // The lock board over lent tables: any tables and any board get an answer. What it is stands in specs/Entered.
+#![tactic(auto)]
+
 ghost use Rattle.std.specs.Prelude.{◌≤◌, ◌≡◌, true, length};
 ghost use Rattle.plan_tables.specs.Given.{is_given};
 ghost use Rattle.plan_tables.specs.Layout.{lent};
@@ -13,14 +15,14 @@ use plan::{OverrunChoice, Policy, Refusal};
 use plan_tables::PlanRecord;
 
 // Whether there is a board at first: made, or a refusal.
-#[derive(Drop)]
+#[derive(Clone, Copy)]
 pub enum FreshAnswer {
     Made,
     NoBoard(Refusal),
 }
 
 // The answer, and the board: a board of zeros where it is refused.
-#[derive(Drop)]
+#[derive(Clone, Copy)]
 pub struct FreshBoard {
     pub answer: FreshAnswer,
     pub board: Board,

@@ -1,4 +1,6 @@
 // Whose turn it is, on a board's arrays and the view of a plan: who may have a mutex, who is next, and with which priority. Holder by mutex, waits by seat.
+#![tactic(auto)]
+
 ghost use Rattle.std.specs.Prelude.{◌≡◌, ◌≤◌, length};
 ghost use Rattle.laws.specs.Choice.{if◌then◌else◌};
 ghost use Rattle.board_turns.specs.Turns.{may_have_at, awaited_at, waiter_v, waiter_n, local_next_at, priority_at, vcpu_priority_at};

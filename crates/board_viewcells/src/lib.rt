@@ -1,4 +1,6 @@
 // One number of the view: a plan's facts as the board's code looks them up. What stands where is said in specs/ViewOf.
+#![tactic(auto)]
+
 ghost use Rattle.std.specs.Prelude.{◌≡◌, ◌<◌, get_or};
 ghost use Rattle.laws.specs.Range.{highest};
 ghost use Rattle.plan.specs.Lookup.{local_to};

@@ -1,4 +1,6 @@
 // Walks over the mutexes and the tasks of a board, on its arrays and the view of a plan.
+#![tactic(auto)]
+
 ghost use Rattle.std.specs.Prelude.{◌≡◌, eqb, ◌≤◌};
 ghost use Rattle.laws.specs.Range.{any_to};
 ghost use Rattle.board_seats.specs.Seats.{seat};

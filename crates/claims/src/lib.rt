@@ -1,1 +1,3 @@
 // Theorems over several floors: this crate has proofs only, in specs/.
+#![tactic(auto)]
+

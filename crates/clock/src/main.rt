@@ -1,4 +1,6 @@
 // Reads a plan in plan.tsv and one line `horizon h` on standard input, and prints the run of the plan on a clock: a line for each event, tick after tick, and how the run ended; or a refusal.
+#![tactic(auto)]
+
 ghost use Rattle.std.specs.Prelude.{◌≡◌, true, ◌≤◌, length};
 ghost use Rattle.plan_tables.specs.Given.{is_given};
 ghost use Rattle.plan_tables.specs.Layout.{lent};

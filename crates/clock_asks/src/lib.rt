@@ -1,4 +1,6 @@
 // The asks of a core's turn on the clock, on the board's arrays and what is kept beside them. What they are stands in specs/Clock of `clock_rules`, what is said of each function in specs/Asked of `clock_takes`.
+#![tactic(auto)]
+
 ghost use Rattle.std.specs.Prelude.{◌≤◌};
 ghost use Rattle.board_rules.specs.View.{facts_in};
 ghost use Rattle.clock_rules.specs.Clock.{asks_at};
@@ -11,7 +13,7 @@ ghost use Rattle.clock_takes.specs.Asked.{PickIs, KnownPick, Asked};
 use plan::{OverrunChoice, Policy};
 
 // Who is picked, nobody where v and n are 0; and the mutex for which it is to ask, 0 for none.
-#[derive(Drop)]
+#[derive(Clone, Copy)]
 struct Choice {
     v: u64,
     n: u64,
@@ -19,7 +21,7 @@ struct Choice {
 }
 
 // Who uses the tick, nobody where v and n are 0; and where the text goes on.
-#[derive(Drop)]
+#[derive(Clone, Copy)]
 pub struct Picked {
     pub v: u64,
     pub n: u64,

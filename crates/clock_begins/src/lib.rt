@@ -1,4 +1,6 @@
 // The plan in lent tables that pass the test for 9, on a clock: the lists of its run before tick 0, and how the run to a horizon ends.
+#![tactic(auto)]
+
 ghost use Rattle.std.specs.Prelude.{◌≡◌, true, ◌≤◌, length};
 ghost use Rattle.plan_tables.specs.Given.{plan_in, is_given};
 ghost use Rattle.plan_tables.specs.Layout.{lent};

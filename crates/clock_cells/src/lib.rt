@@ -1,4 +1,6 @@
 // The times of a plan, one at a time: what the clock asks of it beside the view of the board. What stands where is said in specs/TimesOf.
+#![tactic(auto)]
+
 ghost use Rattle.std.specs.Prelude.{◌≡◌, ◌+◌, ◌<◌, ◌≤◌};
 ghost use Rattle.laws.specs.Rows.{rows, Is};
 ghost use Rattle.laws.specs.Sums.{sum};

@@ -1,4 +1,6 @@
 // The turns of cores 0 to 3 on the clock, on the board's arrays and what is kept beside them. What they are stands in specs/Clock of `clock_rules`.
+#![tactic(auto)]
+
 ghost use Rattle.board_rules.specs.View.{facts_in};
 ghost use Rattle.clock_rules.specs.Clock as clock;
 ghost use Rattle.clock_rules.specs.Trace.{lines_at};

@@ -1,4 +1,6 @@
 // The ask that is due to a task, and the section that ends. What they are stands in specs/Clock of `clock_rules`.
+#![tactic(auto)]
+
 ghost use Rattle.std.specs.Prelude.{◌≡◌, ◌<◌, ◌≤◌};
 ghost use Rattle.clock_marks.specs.Marks.{done_cell};
 ghost use Rattle.clock_dues.specs.Picking.{mutex_at, IsDue, IsOver};

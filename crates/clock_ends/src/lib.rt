@@ -1,4 +1,6 @@
 // A run to its horizon, on the board's arrays, what is kept beside them and when each recurs next. What it is stands in specs/Clock of `clock_rules`.
+#![tactic(auto)]
+
 ghost use Rattle.std.specs.Prelude.{◌≡◌, ◌≤◌};
 ghost use Rattle.clock_rules.specs.Clock.{run_from};
 ghost use Rattle.clock_marks.specs.Marks.{run_in};

@@ -1,4 +1,6 @@
 // The parts of the clock's lists before tick 0: the board at first, every job done, the supplies that go with that, and that all recur at tick 0.
+#![tactic(auto)]
+
 ghost use Rattle.std.specs.Prelude.{◌≡◌, false, length};
 ghost use Rattle.laws.specs.Range.{list_to};
 ghost use Rattle.board_seats.specs.Seats.{budget_of, overrun_of};

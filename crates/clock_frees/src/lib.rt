@@ -1,4 +1,6 @@
 // A finished section is freed in a core's turn on the clock, on the board's arrays and what is kept beside them. What it is stands in specs/Clock of `clock_rules`.
+#![tactic(auto)]
+
 ghost use Rattle.std.specs.Prelude.{◌≡◌, ◌<◌, ◌≤◌};
 ghost use Rattle.board_rules.specs.View.{facts_in};
 ghost use Rattle.board_events.specs.Events.{answers};
@@ -16,7 +18,7 @@ use board_rules::{Board, BoardAnswer, Event, Next};
 use plan::{OverrunChoice, Policy};
 
 // Where the text goes on after the work of a turn; and whether a mutex was handed on in it.
-#[derive(Drop)]
+#[derive(Clone, Copy)]
 pub struct Worked {
     pub at: usize,
     pub handed: bool,

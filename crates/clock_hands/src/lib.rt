@@ -1,4 +1,6 @@
 // Who holds a mutex that a turn on the clock has freed, on what is kept beside the board. What it is stands in specs/Clock of `clock_rules`, what is written in specs/Freed.
+#![tactic(auto)]
+
 ghost use Rattle.std.specs.Prelude.{◌≡◌, ◌<◌, ◌≤◌};
 ghost use Rattle.clock_marks.specs.Marks.{Sized};
 ghost use Rattle.clock_hands.specs.Freed.{held_at, Handed};

@@ -1,4 +1,6 @@
 // The reading of the line `horizon h`. Its rules are those of specs/Trace of `clock_rules`.
+#![tactic(auto)]
+
 ghost use Rattle.std.specs.Prelude.{◌≡◌, [], ◌∷◌, ltb};
 ghost use Rattle.laws.specs.Bytes.{pieces, same};
 ghost use Rattle.plan.specs.Limits.{tab};
@@ -12,7 +14,7 @@ use plan::{BAD, LF, Refusal, TAB};
 pub const MAX_HORIZON: u64 = 1000000;
 
 // What the line `horizon h` says: the tick before which a run ends, or why the line is refused.
-#[derive(Drop)]
+#[derive(Clone, Copy)]
 pub enum HorizonAnswer {
     Until(u64),
     Refuse(Refusal),

@@ -1,4 +1,6 @@
 // The lines that `clock` prints, each written at the start of a lent buffer. The texts are those of specs/Trace of `clock_rules`.
+#![tactic(auto)]
+
 ghost use Rattle.std.specs.Prelude.{◌≡◌, ◌≤◌, length};
 ghost use Rattle.text_letters.specs.Wrote.{Wrote};
 ghost use Rattle.clock_rules.specs.Trace.{event_line, end_line, missed_line, refused_alone};

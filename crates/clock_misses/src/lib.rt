@@ -1,4 +1,6 @@
 // Who recurs at a tick, and the first job missed, by the next tick of each VCPU and task.
+#![tactic(auto)]
+
 ghost use Rattle.std.specs.Prelude.{◌≡◌, ◌<◌, ◌≤◌, length};
 ghost use Rattle.clock_nexts.specs.Nexts.{is_due, misses_at, misses_in, missed_v, missed_n, Row, Jobs};
 

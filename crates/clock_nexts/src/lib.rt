@@ -1,4 +1,6 @@
 // When the VCPUs and tasks of a plan recur, by the next tick of each, kept in a list of their own: a tick divides nothing, and one without recurrence looks at two cells.
+#![tactic(auto)]
+
 ghost use Rattle.std.specs.Prelude.{◌≡◌, ℕ, ◌<◌, ◌≤◌, true, length};
 ghost use Rattle.board_keeps.specs.Fair.{InV};
 ghost use Rattle.clock_sets.specs.Sets.{in_set};

@@ -1,4 +1,6 @@
 // How a tick opens on the clock: the tops that are due, then the releases, where no job is missed. What they are stands in specs/Clock of `clock_rules`, what holds of the lists in specs/Opens of `clock_releases`.
+#![tactic(auto)]
+
 ghost use Rattle.std.specs.Prelude.{◌≤◌};
 ghost use Rattle.board_rules.specs.View.{facts_in};
 ghost use Rattle.clock_rules.specs.Clock.{tops};

@@ -1,4 +1,6 @@
 // Whether a task may have a mutex, by what is kept beside the board's arrays. What is said of each function stands in specs/Passing.
+#![tactic(auto)]
+
 ghost use Rattle.std.specs.Prelude.{◌≡◌, ◌<◌, ◌≤◌};
 ghost use Rattle.clock_marks.specs.Marks.{holders_cell, Sized};
 ghost use Rattle.clock_passes.specs.Passing.{clears_by, passes_in, may_by};

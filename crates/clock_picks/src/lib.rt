@@ -1,4 +1,6 @@
 // Who is picked, by the sets that the clock keeps beside the board. What they say stands in specs/Marks of `clock_marks`, who is picked in specs/Clock of `clock_rules`.
+#![tactic(auto)]
+
 ghost use Rattle.std.specs.Prelude.{◌≡◌, ℕ, ◌<◌, ◌≤◌};
 ghost use Rattle.laws_picks.specs.Picks.{top_of};
 ghost use Rattle.clock_sets.specs.Sets.{in_set};

@@ -1,4 +1,6 @@
 // Reads and writes of the list that the clock keeps beside the board's arrays. What it says stands in specs/Marks of `clock_marks`, what a write changes in its specs/Changes and in specs/Puts here.
+#![tactic(auto)]
+
 ghost use Rattle.std.specs.Prelude.{◌≡◌, ◌+◌, ◌<◌, ◌≤◌, set};
 ghost use Rattle.board_seats.specs.Seats.{seat};
 ghost use Rattle.clock_marks.specs.Marks.{Sized, held_cell, done_cell, place_cell};

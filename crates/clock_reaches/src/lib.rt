@@ -1,4 +1,6 @@
 // For how many ticks a core's turn stays the same: how far its task goes on, who idles in it, and the least of them.
+#![tactic(auto)]
+
 ghost use Rattle.std.specs.Prelude.{◌≡◌, get_or, ℕ, ◌-◌, ◌<◌, ◌≤◌};
 ghost use Rattle.board_reserves.specs.Supplies.{under_p};
 ghost use Rattle.board_keeps.specs.Fair.{InV, InN};

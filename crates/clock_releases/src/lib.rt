@@ -1,4 +1,6 @@
 // The releases of a tick on the clock, where no job is missed. What they are stands in specs/Clock of `clock_rules`, what holds of the lists in specs/Opens.
+#![tactic(auto)]
+
 ghost use Rattle.std.specs.Prelude.{◌≡◌, ◌<◌, ◌≤◌, length};
 ghost use Rattle.board_seats.specs.Seats.{seat};
 ghost use Rattle.clock_marks.specs.Marks.{Sized};
@@ -6,7 +8,7 @@ ghost use Rattle.clock_nexts.specs.Nexts.{Periods, Jobs};
 ghost use Rattle.clock_releases.specs.Opens.{Release, Releases, Jobbed};
 
 // What the opening of a tick leaves: where its text ends, and whose job is the first missed, v and n 0 for nobody's.
-#[derive(Drop)]
+#[derive(Clone, Copy)]
 pub struct Opened {
     pub at: usize,
     pub v: u64,

@@ -1,4 +1,6 @@
 // The nexts of the VCPUs and tasks that recur are written anew when those of a tick are made. What is kept is said in specs/Nexts of `clock_nexts`.
+#![tactic(auto)]
+
 ghost use Rattle.std.specs.Prelude.{◌≡◌, ◌≤◌, length, get_or};
 ghost use Rattle.clock_nexts.specs.Nexts.{renewal, Tops, Jobs, Periods, HasTops, Wrote, Soonest, TopsRenewed, RowsRenewed, JobsRenewed};
 

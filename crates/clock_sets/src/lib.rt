@@ -1,4 +1,6 @@
 // Sets of the names 1 to 16 (VCPUs) or 1 to 8 (tasks) as the bits of a number: bit v - 1 for v.
+#![tactic(auto)]
+
 ghost use Rattle.std.specs.Prelude.{◌≡◌, ◌<◌, ◌≤◌};
 ghost use Rattle.laws_picks.specs.Picks.{lowest};
 ghost use Rattle.clock_sets.specs.Sets.{in_set, With, Without, Meet, Join, Less, Highest};

@@ -1,4 +1,6 @@
 // A step of the run: a tick is opened, or ticks that no core's turn changes are skipped. What is said of it stands in specs/Skips.
+#![tactic(auto)]
+
 ghost use Rattle.std.specs.Prelude.{◌<◌, ◌≤◌};
 ghost use Rattle.clock_marks.specs.Marks.{board_of, run_in, done_in};
 ghost use Rattle.clock_going.specs.Going.{timing_by, Going};
@@ -8,7 +10,7 @@ ghost use Rattle.clock_skips.specs.Skips.{Coming, Stepping};
 use plan::{OverrunChoice, Policy};
 
 // What a step of the run leaves: the task whose job is missed, 0 and 0 for none; whether the turns of the cores are still to be made, or, where the tick was opened, looked at; and the tick that it comes to with them.
-#[derive(Drop)]
+#[derive(Clone, Copy)]
 pub struct Stepped {
     pub v: u64,
     pub n: u64,

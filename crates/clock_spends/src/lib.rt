@@ -1,4 +1,6 @@
 // Ticks of turns that stay the same, spent at once, and what is known of a core's turn.
+#![tactic(auto)]
+
 ghost use Rattle.std.specs.Prelude.{◌≡◌, true, length, ◌+◌, ◌<◌, ◌≤◌};
 ghost use Rattle.clock_marks.specs.Marks.{board_of, done_in, done_cell, Sized};
 ghost use Rattle.clock_going.specs.Going.{timing_by, Going};

@@ -1,4 +1,6 @@
 // The clock's lists before tick 0: the board at first, every job done, what is kept beside the board to go with that, and that all recur at tick 0.
+#![tactic(auto)]
+
 ghost use Rattle.std.specs.Prelude.{◌≡◌, length};
 ghost use Rattle.plan.specs.declared.Policy.{Policy};
 ghost use Rattle.clock_times.specs.Times.{Paired, Ordered};

@@ -1,4 +1,6 @@
 // The cores' turns, those that stay the same with what is known of them.
+#![tactic(auto)]
+
 ghost use Rattle.std.specs.Prelude.{◌≡◌, true, false, length, ◌≤◌};
 ghost use Rattle.clock_marks.specs.Marks.{board_of, run_in, done_in};
 ghost use Rattle.clock_rules.specs.Clock as clock;

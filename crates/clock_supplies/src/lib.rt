@@ -1,4 +1,6 @@
 // Writes of what is kept of VCPUs: their supply, their cores, all of it cleared. What stands where is said in specs/Puts of `clock_puts`.
+#![tactic(auto)]
+
 ghost use Rattle.std.specs.Prelude.{◌≡◌, false, ◌-◌, ◌<◌, ◌≤◌, ltb, length, get_or};
 ghost use Rattle.clock_marks.specs.Marks.{Sized, spares, marks_length};
 ghost use Rattle.clock_puts.specs.Puts.{PutSupply, CoreSet, PutCores, Cleared};

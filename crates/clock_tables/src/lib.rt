@@ -1,4 +1,6 @@
 // The plan in lent tables on a clock: how the run to a horizon ends. What it answers stands in specs/Clock of `clock_rules`: 9 first, then 3.
+#![tactic(auto)]
+
 ghost use Rattle.std.specs.Prelude.{◌≡◌, true};
 ghost use Rattle.plan_tables.specs.Given.{is_given};
 ghost use Rattle.plan_tables.specs.Layout.{lent};

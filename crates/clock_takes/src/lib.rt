@@ -1,4 +1,6 @@
 // One ask of a core's turn on the clock, on the board's arrays and what is kept beside them. What it is stands in specs/Clock of `clock_rules`, what is said of each function in specs/Asked.
+#![tactic(auto)]
+
 ghost use Rattle.std.specs.Prelude.{◌≡◌, ◌<◌, ◌≤◌};
 ghost use Rattle.board_seats.specs.Seats.{is_global};
 ghost use Rattle.board_rules.specs.View.{facts_in};
@@ -13,7 +15,7 @@ use board_rules::{Board, BoardAnswer, Event};
 use plan::{OverrunChoice, Policy};
 
 // Whether who asked waits; and where the text goes on.
-#[derive(Drop)]
+#[derive(Clone, Copy)]
 pub struct Answered {
     pub waits: bool,
     pub at: usize,

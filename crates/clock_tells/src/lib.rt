@@ -1,4 +1,6 @@
 // A tick of the clock told on standard output.
+#![tactic(auto)]
+
 ghost use Rattle.std.specs.Prelude.{◌≡◌, true, ◌≤◌, length};
 ghost use Rattle.board_rules.specs.View.{facts_in};
 ghost use Rattle.log_answers.specs.Small.{Small};

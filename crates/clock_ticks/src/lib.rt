@@ -1,4 +1,6 @@
 // A tick of the clock on the board's arrays, what is kept beside them and when each recurs next. What it is stands in specs/Clock and specs/Trace of `clock_rules`, what is said of the function in specs/Ticks.
+#![tactic(auto)]
+
 ghost use Rattle.std.specs.Prelude.{◌≤◌};
 ghost use Rattle.clock_rules.specs.Trace.{tick_text};
 ghost use Rattle.clock_marks.specs.Marks.{run_in};
@@ -10,7 +12,7 @@ ghost use Rattle.clock_ticks.specs.Ticks.{Ticking};
 use plan::{OverrunChoice, Policy};
 
 // What a tick leaves: where its text ends, and the task whose job is missed, 0 and 0 for none.
-#[derive(Drop)]
+#[derive(Clone, Copy)]
 pub struct Ticked {
     pub at: usize,
     pub v: u64,

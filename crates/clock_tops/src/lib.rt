@@ -1,4 +1,6 @@
 // The tops of a tick on the clock that are due. What they are stands in specs/Clock of `clock_rules`, what holds of the lists in specs/Topping here.
+#![tactic(auto)]
+
 ghost use Rattle.std.specs.Prelude.{◌≡◌, ◌<◌, ◌≤◌, length};
 ghost use Rattle.board_rules.specs.View.{facts_in};
 ghost use Rattle.board_rules.specs.Settle.{Marked};

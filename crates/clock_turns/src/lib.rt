@@ -1,4 +1,6 @@
 // A core's turn on the clock, on the board's arrays and what is kept beside them. What it is stands in specs/Clock of `clock_rules`, what is said of each function in specs/Turned.
+#![tactic(auto)]
+
 ghost use Rattle.std.specs.Prelude.{◌≡◌, ◌≤◌};
 ghost use Rattle.board_reserves.specs.Supplies.{under_p};
 ghost use Rattle.board_rules.specs.Board.{next_of};

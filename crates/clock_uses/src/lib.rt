@@ -1,4 +1,6 @@
 // A tick used of a VCPU's supply, and the idle uses of a core's turn on the clock, on the board's arrays and what is kept beside them. What they are stands in specs/Clock of `clock_rules`.
+#![tactic(auto)]
+
 ghost use Rattle.std.specs.Prelude.{◌≡◌, true, [], ◌∷◌, ◌<◌, ◌≤◌};
 ghost use Rattle.board_reserves.specs.Supplies.{under_p};
 ghost use Rattle.board_rules.specs.View.{facts_in};

@@ -1,4 +1,6 @@
 // The times of a plan: what the clock asks of it beside the view of the board, in one list of numbers. What stands where is said in specs/TimesOf of `clock_cells`.
+#![tactic(auto)]
+
 ghost use Rattle.std.specs.Prelude.{◌≡◌, ◌+◌, ◌<◌, length, get_or};
 ghost use Rattle.figures.specs.Tabled.{Fit, system_in};
 ghost use Rattle.clock_cells.specs.TimesOf.{times_of};

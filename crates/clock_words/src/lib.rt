@@ -1,4 +1,6 @@
 // The fields of an event and of its answer, behind the tick that begins their line. The line is that of specs/Trace of `clock_rules`.
+#![tactic(auto)]
+
 ghost use Rattle.std.specs.Prelude.{◌++◌, ◌≤◌, length};
 ghost use Rattle.laws.specs.Decimal.{decimal};
 ghost use Rattle.text_letters.specs.Wrote.{Wrote};

@@ -1,4 +1,6 @@
 // The work of a core's turn on the clock, on the board's arrays and what is kept beside them. What it is stands in specs/Clock of `clock_rules`.
+#![tactic(auto)]
+
 ghost use Rattle.std.specs.Prelude.{◌≡◌, ◌<◌, ◌≤◌};
 ghost use Rattle.board_rules.specs.View.{facts_in};
 ghost use Rattle.board_events.specs.Events.{answers};

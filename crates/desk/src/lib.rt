@@ -1,4 +1,6 @@
 // The faces that strangers call: from any bytes to the bytes that a program prints.
+#![tactic(auto)]
+
 ghost use Rattle.std.specs.Prelude.{◌≡◌, true, ◌≤◌, length};
 ghost use Rattle.plan.specs.Reading.{reading};
 ghost use Rattle.plan_tables.specs.Layout.{lent};

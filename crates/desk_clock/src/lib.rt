@@ -1,4 +1,6 @@
 // The face of the clock that strangers call: from any bytes to how the run of their plan ends.
+#![tactic(auto)]
+
 ghost use Rattle.std.specs.Prelude.{◌≡◌};
 ghost use Rattle.plan_tables.specs.Layout.{lent};
 ghost use Rattle.records_read.specs.Lies.{Sure};

@@ -1,4 +1,6 @@
 // A refused plan's one line into a lent buffer, and how many bytes a call has written.
+#![tactic(auto)]
+
 ghost use Rattle.std.specs.Prelude.{◌≡◌};
 ghost use Rattle.listing.specs.Listing.{refused_line};
 ghost use Rattle.listing_lines.specs.Into.{text_answer, text_after, bytes_in};

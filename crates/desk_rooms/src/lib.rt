@@ -1,4 +1,6 @@
 // How long an input may be, and how much room the texts need that the programs print: the second in definitions and proofs only, in specs/.
+#![tactic(auto)]
+
 ghost use Rattle.std.specs.Prelude.{◌≡◌, ltb};
 ghost use Rattle.plan.specs.Limits.{max_input};
 

@@ -1,4 +1,6 @@
 // The face of the writer that strangers call: from any bytes to the bytes that `rewrite` prints.
+#![tactic(auto)]
+
 ghost use Rattle.std.specs.Prelude.{◌≡◌, ◌≤◌, length};
 ghost use Rattle.plan_tables.specs.Layout.{lent};
 ghost use Rattle.text_letters.specs.Wrote.{Wrote};

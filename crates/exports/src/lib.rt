@@ -1,4 +1,6 @@
 // The library's functions for C, on byte slices, which `exports_c` exports. Each result is one number: the bytes written, or how a run ends, or the refusal's number, negated.
+#![tactic(auto)]
+
 ghost use Rattle.std.specs.Prelude.{◌≡◌};
 ghost use Rattle.listing.specs.Listing.{verdict_text};
 ghost use Rattle.board_events.specs.Events.{board_text};

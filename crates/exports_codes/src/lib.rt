@@ -1,4 +1,6 @@
 // An answer of a call as one number, for callers outside: the bytes written, or how a run ends, or the refusal's number, negated.
+#![tactic(auto)]
+
 ghost use Rattle.std.specs.Prelude.{◌≡◌, ◌≤◌, ◌<◌, ◌^◌, ltb, length};
 ghost use Rattle.listing_lines.specs.Into.{bytes_in};
 ghost use Rattle.exports_codes.specs.Exported.{negated, exported, run_exported, missed_left};

@@ -1,4 +1,6 @@
 // The library's function for C that writes a plan, which `exports_write_c` exports in an archive of its own: a plan's bytes from tables whose record is six numbers. The numbers are those of specs/Numbers.
+#![tactic(auto)]
+
 ghost use Rattle.std.specs.Prelude.{◌≡◌};
 ghost use Rattle.plan_tables.specs.Layout.{lent};
 ghost use Rattle.exports_codes.specs.Exported.{exported};

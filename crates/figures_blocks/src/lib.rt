@@ -1,4 +1,6 @@
 // The longest global section by which one task blocks another, of a plan in lent tables whose figures stand in a lent slice (specs/Stored of `figures_slices`).
+#![tactic(auto)]
+
 ghost use Rattle.std.specs.Prelude.{◌<◌};
 ghost use Rattle.laws.specs.Choice.{when};
 ghost use Rattle.laws.specs.Rows.{Is};

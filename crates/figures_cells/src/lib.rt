@@ -1,4 +1,6 @@
 // What the rows of a plan in lent tables say: their numbers, which mutexes are global and which local, and which of two tasks is the lower. What these are stands in crate figures, specs/Figures.
+#![tactic(auto)]
+
 ghost use Rattle.std.specs.Prelude.{◌≡◌, ◌&&◌, ◌+◌, ◌*◌, ◌<◌, eqb};
 ghost use Rattle.laws.specs.Rows.{Is};
 ghost use Rattle.plan.specs.Lookup.{is_global, is_local_to, global, local_to};

@@ -1,4 +1,6 @@
 // Rows of a plan in lent tables, VCPUs found by their names or set against each other; what one task adds to a ght.
+#![tactic(auto)]
+
 ghost use Rattle.std.specs.Prelude.{◌≡◌, ◌<◌, eqb};
 ghost use Rattle.laws.specs.Choice.{when};
 ghost use Rattle.laws.specs.Rows.{Is};

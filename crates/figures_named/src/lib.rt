@@ -1,4 +1,6 @@
 // Rows of a plan in lent tables, tasks found by their names or set against each other; the ght of a VCPU, and the overrun that it gives.
+#![tactic(auto)]
+
 ghost use Rattle.std.specs.Prelude.{◌≡◌, true, ◌<◌};
 ghost use Rattle.laws.specs.Rows.{rows, Is};
 ghost use Rattle.plan.specs.Lookup.{has_vcpu};

@@ -1,4 +1,6 @@
 // The figures of the sections of one row of a plan in lent tables: sums, counts and the longest, ceilings, and the local sections that block. They stand in crate figures, specs/Figures.
+#![tactic(auto)]
+
 ghost use Rattle.std.specs.Prelude.{◌≡◌, ◌+◌, ◌<◌};
 ghost use Rattle.laws.specs.Choice.{when};
 ghost use Rattle.laws.specs.Rows.{Is};

@@ -1,4 +1,6 @@
 // The whole plan, worked out once into number slices: its figures (specs/Stored), its answers (specs/Store, specs/Filled), and the rows of its searches (specs/Costs).
+#![tactic(auto)]
+
 ghost use Rattle.std.specs.Prelude.{◌+◌, ◌*◌, ◌≤◌, length};
 ghost use Rattle.figures_slices.specs.Costs.{Added};
 

@@ -1,4 +1,6 @@
 // Every figure of a plan, worked out once into lent slices. Where each stands is said in specs/Stored of `figures_slices`.
+#![tactic(auto)]
+
 ghost use Rattle.std.specs.Prelude.{◌≡◌, ◌+◌, ◌*◌, ◌<◌, ◌≤◌, ◌^◌, length, set};
 ghost use Rattle.laws.specs.Choice.{when};
 ghost use Rattle.laws.specs.Sums.{up};

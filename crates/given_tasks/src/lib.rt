@@ -1,4 +1,6 @@
 // What the judge asks of the rows of tasks, for 9: the tests of specs/Clear, from what it has seen before the first of them. Nothing that was seen is handed on from line to line.
+#![tactic(auto)]
+
 ghost use Rattle.std.specs.Prelude.{◌≡◌, true, cond, ◌≤◌, ◌<◌};
 ghost use Rattle.laws.specs.Sums.{all};
 ghost use Rattle.laws.specs.Rows.{rows};

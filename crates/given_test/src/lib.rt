@@ -1,4 +1,6 @@
 // The test for 9: do tables hold what some accepted plan gives? (specs/Given of `plan_tables`; specs/Tests has its tests one by one.)
+#![tactic(auto)]
+
 ghost use Rattle.std.specs.Prelude.{◌≡◌, true, [], ◌≤◌};
 ghost use Rattle.laws.specs.Rows.{rows};
 ghost use Rattle.plan.specs.declared.Kind.TheVariants.{EndLine};
@@ -21,7 +23,7 @@ use plan::{Kind, OverrunChoice, Policy, within};
 use plan_tables::{MUTEX_WIDTH, OPEN_WIDTH, PlanRecord, VCPU_WIDTH};
 
 // The judge at work: is no item so far at fault, and what is seen.
-#[derive(Drop)]
+#[derive(Clone, Copy)]
 struct Run {
     ok: bool,
     seen: Seen,

@@ -1,4 +1,6 @@
 // The tests of lent tables that judge no item, for 9: the counts within a plan's, zeros where a task has no lock, and the guest of a task. (specs/Tests has the tests, specs/Hosts the guests.)
+#![tactic(auto)]
+
 ghost use Rattle.std.specs.Prelude.{◌≡◌, ◌||◌, not, eqb, ◌-◌, ◌≤◌};
 ghost use Rattle.laws.specs.Rows.{rows};
 ghost use Rattle.plan_tables.specs.Layout as layout;

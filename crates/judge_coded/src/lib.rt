@@ -1,5 +1,7 @@
 // What a judge of a plan's items has seen, by value: numbers by place where the rules of `plan` keep rows. What is wrong with an item after it stands in specs/Coded;
 // that this agrees with the rules of `plan`, in specs/Agrees.
+#![tactic(auto)]
+
 ghost use Rattle.std.specs.Prelude.{◌≡◌};
 ghost use Rattle.plan.specs.Rules as rules;
 ghost use Rattle.plan.specs.Rules.{vcpu_fits};
@@ -26,7 +28,7 @@ pub const NOWHERE: u64 = MAX_M * MAX_GUEST;
 pub const GLOBAL: u64 = MAX_V + 1;
 
 // What is seen after some items.
-#[derive(Drop)]
+#[derive(Clone, Copy)]
 pub struct Seen {
     // By the last line (specs/Rules of `plan`).
     pub phase: u64,

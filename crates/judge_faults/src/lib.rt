@@ -1,4 +1,6 @@
 // What is wrong with an item of a plan, a kind and its numbers, after those before it. What it means stands in specs/Coded of `judge_coded`.
+#![tactic(auto)]
+
 ghost use Rattle.std.specs.Prelude.{◌≡◌, get_or, eqb, leb};
 ghost use Rattle.plan.specs.Rules as rules;
 ghost use Rattle.plan.specs.Reading.{fault};

@@ -19,7 +19,7 @@ Firsts a b c d e t k = missing (eqb (get_or t.owners a 0) global) k ≡ missing 
 pub missing_first : (t : Seen) (k : Kind) (a b c d e : ℕ) → Firsts a b c d e t k
 unfolding nums_of size shape
 missing_first t k a b c d e =
-    elim k [
+    elim k as (λ k. Firsts a b c d e t k) [
       | PlanLine ↦ refl
       | PolicyPO ↦ refl
       | PolicyPN ↦ refl

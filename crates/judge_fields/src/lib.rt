@@ -1,4 +1,6 @@
 // The field for which an item of a plan is refused. What it means stands in specs/Fields of `plan`.
+#![tactic(auto)]
+
 ghost use Rattle.std.specs.Prelude.{◌≡◌};
 ghost use Rattle.plan.specs.Fields as fields;
 ghost use Rattle.judge_coded.specs.Coded.{coded, item};

@@ -1,4 +1,6 @@
 // What is wrong with a task on a VCPU, by what is declared and how many there are; and which mutexes it may lock. What it means stands in specs/Coded of `judge_coded`.
+#![tactic(auto)]
+
 ghost use Rattle.std.specs.Prelude.{◌≡◌, get_or};
 ghost use Rattle.judge_coded.specs.Coded as coded;
 

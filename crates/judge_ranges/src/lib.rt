@@ -1,4 +1,6 @@
 // The leftmost field of an item whose number is out of its range. What it means stands in specs/Fields of `plan`.
+#![tactic(auto)]
+
 ghost use Rattle.std.specs.Prelude.{◌≡◌, [], ◌∷◌, cond};
 ghost use Rattle.plan.specs.Rules as rules;
 ghost use Rattle.plan.specs.declared.Kind.TheVariants.{VcpuLine, TaskLine};

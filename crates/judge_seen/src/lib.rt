@@ -1,4 +1,6 @@
 // What is seen after an item of a plan, a kind and its numbers. What it means stands in specs/Coded of `judge_coded`.
+#![tactic(auto)]
+
 ghost use Rattle.std.specs.Prelude.{◌≡◌, set};
 ghost use Rattle.plan.specs.Rules as rules;
 ghost use Rattle.judge_coded.specs.Coded as coded;

@@ -235,12 +235,14 @@ members (x ∷ xs) = (Memᴰ.head refl, each_map xs (λ y m. Memᴰ.tail m) (mem
 
 -- what holds of each row holds of a member
 pub each_has : {A : Type 0} (P : A → Type 0) {x : A} (xs : List A) → Each P xs → Memᴰ x xs → P x
+each_has {A = A} P [] h x3 = elim x3 [ ]
 each_has P (y ∷ xs) h (Memᴰ.head e) = subst P (sym e) h.0
 each_has P (y ∷ xs) h (Memᴰ.tail m) = each_has P xs h.1 m
 
 -- a member passes: so some row does
 pub has_any : {A : Type 0} (f : A → Bool) {x : A} (xs : List A) → Memᴰ x xs → f x ≡ true → any f xs ≡ true
 unfolding any
+has_any {A = A} f [] x3 q = elim x3 [ ]
 has_any f (y ∷ xs) (Memᴰ.head e) q = either_left (f y) (any f xs) (ap f (sym e) ∙ q)
 has_any f (y ∷ xs) (Memᴰ.tail m) q = either_right (f y) (any f xs) (has_any f xs m q)
 

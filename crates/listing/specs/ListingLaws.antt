@@ -70,6 +70,7 @@ stands_right {l} xs e s = record {
 pub stands_flat :
     {A : Type 0} (f : A → List ℕ) → ((x : A) → Ended (f x)) → {l : List ℕ} {x : A} (xs : List A) → Memᴰ x xs → Stands l (f x) → Stands l (flat f xs)
 unfolding flat
+stands_flat {A = A} f h {l = l} [] x3 s = elim x3 [ ]
 stands_flat f h {l} (y ∷ xs) (Memᴰ.head e) s = stands_left (flat f xs) (subst (λ z. Stands l (f z)) e s)
 stands_flat f h (y ∷ xs) (Memᴰ.tail m) s = stands_right (f y) (h y) (stands_flat f h xs m s)
 
@@ -132,6 +133,7 @@ rising_only s k =
 module _ {A : Type 0} {x : A} where
   in_left : (xs ys : List A) → Memᴰ x xs → Memᴰ x (xs ++ ys)
   in_left (y ∷ xs) ys (Memᴰ.head e) = Memᴰ.head e
+  in_left [] ys x'' = elim x'' [ ]
   in_left (y ∷ xs) ys (Memᴰ.tail m) = Memᴰ.tail (in_left xs ys m)
 
   in_right : (xs ys : List A) → Memᴰ x ys → Memᴰ x (xs ++ ys)
@@ -139,6 +141,7 @@ module _ {A : Type 0} {x : A} where
   in_right (y ∷ xs) ys m = Memᴰ.tail (in_right xs ys m)
 
   in_only : (f : A → Bool) (xs : List A) → f x ≡ true → Memᴰ x xs → Memᴰ x (only f xs)
+  in_only f [] t x3 = elim x3 [ ]
   in_only f (y ∷ xs) t (Memᴰ.head e) = subst (Memᴰ x) (sym (only_in f y xs (ap f (sym e) ∙ t))) (Memᴰ.head e)
   in_only f (y ∷ xs) t (Memᴰ.tail m) = let ih = in_only f xs t m in only_either f (Memᴰ x) y xs (λ e. Memᴰ.tail ih) ih
 

@@ -1,1 +1,3 @@
 // What `verdict` prints, as definitions in specs/Listing.
+#![tactic(auto)]
+

@@ -1,4 +1,6 @@
 // The listing's lines, each written at the start of a lent buffer, and their sizes. The texts are those of specs/Lines.
+#![tactic(auto)]
+
 ghost use Rattle.std.specs.Prelude.{◌≡◌, ◌∷◌, ◌≤◌, length};
 ghost use Rattle.laws.specs.Decimal.{decimal};
 ghost use Rattle.plan.specs.Refusals.{number_of};
@@ -12,14 +14,14 @@ use plan::{Complaint, Refusal};
 use search::Answer;
 
 // The answer of a call that writes a text into a lent buffer: its size, or a refusal.
-#[derive(Drop)]
+#[derive(Clone, Copy)]
 pub enum TextAnswer {
     Written(usize),
     Refused(Refusal),
 }
 
 // An answer, taken apart: its kind (0 late, 1 fits, 2 nowait, 3 held), its ticks, and its rounds.
-#[derive(Drop)]
+#[derive(Clone, Copy)]
 struct Parts {
     kind: u64,
     ticks: u64,

@@ -1,4 +1,6 @@
 // The tasks of a plan in lent tables by (v, n), over the whole plan.
+#![tactic(auto)]
+
 ghost use Rattle.std.specs.Prelude.{◌+◌, ◌<◌, ◌≤◌, [], ◌∷◌, length};
 ghost use Rattle.laws.specs.Sums.{only};
 ghost use Rattle.plan_tables.specs.Layout.{task_row};

@@ -1,4 +1,6 @@
 // The listing's lines, from the answers of a plan and the order of its tasks into a buffer with room.
+#![tactic(auto)]
+
 ghost use Rattle.std.specs.Prelude.{◌<◌, ◌≤◌, length};
 ghost use Rattle.laws.specs.Sums.{flat};
 ghost use Rattle.plan_tables.specs.Layout.{vcpu_row, task_row};

@@ -1,4 +1,6 @@
 // The whole listing of a plan in lent tables that pass the test for 9, into a lent buffer.
+#![tactic(auto)]
+
 ghost use Rattle.std.specs.Prelude.{◌≡◌, ◌*◌, ◌≤◌, leb, length};
 ghost use Rattle.plan.specs.declared.Refusal.TheVariants.{Room};
 ghost use Rattle.plan.specs.Limits.{most_tasks};

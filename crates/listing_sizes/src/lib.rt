@@ -1,4 +1,6 @@
 // The size of a plan's listing.
+#![tactic(auto)]
+
 ghost use Rattle.std.specs.Prelude.{◌≡◌, ◌<◌, ◌≤◌, length};
 ghost use Rattle.laws.specs.Sums.{flat};
 ghost use Rattle.plan_tables.specs.Layout.{cell, vcpu_row, lock_row, task_row, task_width};

@@ -1,4 +1,6 @@
 // The line of a wait, from a plan in lent tables and its answers in lent slices.
+#![tactic(auto)]
+
 ghost use Rattle.std.specs.Prelude.{◌<◌, ◌≤◌, length};
 ghost use Rattle.plan_tables.specs.Layout.{cell, lock_row, task_row, task_width};
 ghost use Rattle.figures.specs.Tabled.{Fit, system_in};

@@ -1,4 +1,6 @@
 // The whole listing of a plan in lent tables, into a lent buffer: 9 first.
+#![tactic(auto)]
+
 ghost use Rattle.std.specs.Prelude.{◌≡◌};
 ghost use Rattle.plan.specs.declared.Refusal.TheVariants.{Foreign};
 ghost use Rattle.plan_tables.specs.Layout.{lent};

@@ -1,4 +1,6 @@
 // Event lines in, answer lines out. What they mean stands in specs/Events of `board_events`.
+#![tactic(auto)]
+
 ghost use Rattle.std.specs.Prelude.{◌≡◌, ◌++◌, true, ◌+◌, ◌≤◌, length, take};
 ghost use Rattle.listing.specs.Listing.{line};
 ghost use Rattle.text_letters.specs.Wrote.{Wrote};

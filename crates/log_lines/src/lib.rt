@@ -1,4 +1,6 @@
 // One line of events on a board: what it says, and what comes of it.
+#![tactic(auto)]
+
 ghost use Rattle.std.specs.Prelude.{◌≡◌};
 ghost use Rattle.plan.specs.Line.{shape, written, nums_of};
 ghost use Rattle.text_lines.specs.Said.{said_item};
@@ -12,7 +14,7 @@ use plan::{Found, Kind, OverrunChoice, Policy, Refusal};
 use text_lines::Said;
 
 // The event that a line tells, if it tells one.
-#[derive(Drop)]
+#[derive(Clone, Copy)]
 enum Told {
     Says(Event),
     Silent,

@@ -42,7 +42,7 @@ Short a = length (line (answer_fields a)) ≤ 30
 pub number_low : (r : Refusal) → number_of r < 10 ^ 2
 unfolding number_of
 number_low r =
-    elim r [
+    elim r as (λ r. number_of r < 10 ^ 2) [
       | Shape ↦ omega arith
       | Number ↦ omega arith
       | Range ↦ omega arith

@@ -1,4 +1,6 @@
 // How an answer of the board is written as a line, and how long that line is. What it says stands in specs/Events of `board_events`.
+#![tactic(auto)]
+
 ghost use Rattle.std.specs.Prelude.{◌≡◌, [], ◌∷◌, ◌≤◌, length};
 ghost use Rattle.laws.specs.Decimal.{decimal};
 ghost use Rattle.plan.specs.declared.Refusal.TheVariants.{Shape};
@@ -11,7 +13,7 @@ use board_rules::{BoardAnswer, Next};
 use plan::Refusal;
 
 // An answer, taken apart: how many numbers its line has, which of the lines with as many it is, and the numbers.
-#[derive(Drop)]
+#[derive(Clone, Copy)]
 struct Parts {
     count: u64,
     word: u64,

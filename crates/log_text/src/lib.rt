@@ -1,4 +1,6 @@
 // The answers to logged events, from a plan in tables that passed the test for 9 into a lent buffer.
+#![tactic(auto)]
+
 ghost use Rattle.std.specs.Prelude.{◌≡◌, true, ◌*◌, ◌≤◌, length};
 ghost use Rattle.plan_tables.specs.Given.{plan_in, is_given};
 ghost use Rattle.plan_tables.specs.Layout.{lent};

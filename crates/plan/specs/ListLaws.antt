@@ -95,6 +95,7 @@ pairs_chain R (x ∷ xs) h = chain_from R x (R x) xs (λ y r. r) h.0 (pairs_chai
 pub first_named :
     {A : Type 0} (f : A → Bool) (d : A) (R : A → A → Type 0) (x : A) (xs : List A) →
     Pairs R xs → ((y : A) → R y x → f y ≡ false) → f x ≡ true → Memᴰ x xs → first f d xs ≡ x
+first_named {A = A} f d R x [] p w e x5 = elim x5 [ ]
 first_named f d R x (y ∷ xs) p w e (Memᴰ.head q) = first_in_law f d y xs (ap f (sym q) ∙ e) ∙ sym q
 first_named f d R x (y ∷ xs) p w e (Memᴰ.tail m) =
     first_out_law f d y xs (w y (each_has (R y) xs p.0 m)) ∙ first_named f d R x xs p.1 w e m

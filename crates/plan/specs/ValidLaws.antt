@@ -1,7 +1,7 @@
 -- The lines of a plan pass exactly when the plan is valid.
 use Prim.Native.Nat.{ℕ, suc, ◌+◌, ◌≤◌, ◌<◌}
 use Rattle.std.specs.Prelude.{◌≡◌, ◌↔◌, true, eqb, leb}
-use Rattle.std.proofs.Math.Path.{refl}
+use Rattle.std.proofs.Math.Path.{refl, subst}
 use mathlib.Core.List.{List, [], ◌∷◌, ◌++◌, append-nil, append_assoc}
 use Rattle.std.proofs.Math.Logic.{inl}
 use Rattle.std.proofs.lemmas.Bool.{false≢true}
@@ -63,6 +63,12 @@ row_more e i = (
   λ h. (e.1 (h.1.0, h.0.0), i.1 (h.0.1, h.1.1, h.2)),
 )
 
+-- the rows after one more row rise from that row
+rise_from :
+    {A : Type 0} (R : A → A → Type 0) (d x : A) (xs rs : List A) {P E K : Type 0} →
+    P ↔ (Chain R (last d (xs ++ (x ∷ [])) ∷ rs) × E × K) → P ↔ (Chain R (x ∷ rs) × E × K)
+rise_from R d x xs rs {P = P} {E = E} {K = K} h = subst (λ y. P ↔ (Chain R (y ∷ rs) × E × K)) (last_append d x xs) h
+
 -- THE HOST LINES: a table passes exactly when its rows are valid and rise from its last row so far
 vcpus_pass :
     (rs : List Vcpu) (q : ℕ) (ws : List Vcpu) (is : List Item) → within q 2 3 ≡ true →
@@ -71,7 +77,7 @@ vcpus_pass :
 unfolding vcpu_items learn phase follows
 vcpus_pass [] q ws is f = rw append-nil (λ h. (tt, tt, h), λ h. h.2)
 vcpus_pass (r ∷ rs) q ws is f =
-    row_more (vcpu_clear (known q ws [] [] 0 0 0 0 0) r f) (simp (phase_same, last_append, append_assoc) at (vcpus_pass rs 3 (ws ++ (r ∷ [])) is refl))
+    row_more (vcpu_clear (known q ws [] [] 0 0 0 0 0) r f) (simp (phase_same, append_assoc) at (rise_from (λ r s. r.v < s.v) no_vcpu r ws rs (vcpus_pass rs 3 (ws ++ (r ∷ [])) is refl)))
 
 owned_learnt : (t : Known) (m : ℕ) (o : Owner) → learnt t (owned_item m o) ≡ with_mutex 4 t (record { m = m; owner = o })
 unfolding learn phase
@@ -90,7 +96,7 @@ module _ (vs : List Vcpu) where
   mutexes_pass (r ∷ rs) q ws is f =
       rw owned_learnt
       (row_more (mutex_clear (known q vs ws [] 0 0 0 0 0) r.m r.owner f)
-      (simp (phase_same, last_append, append_assoc) at (mutexes_pass rs 4 (ws ++ (r ∷ [])) is refl)))
+      (simp (phase_same, append_assoc) at (rise_from (λ r s. r.m < s.m) no_mutex r ws rs (mutexes_pass rs 4 (ws ++ (r ∷ [])) is refl))))
 
   module _ (ms : List Mutex) where
     opens_pass :
@@ -102,7 +108,7 @@ module _ (vs : List Vcpu) where
     unfolding open_items learn phase follows
     opens_pass [] q ws is f = rw append-nil (λ h. (tt, tt, h), λ h. h.2)
     opens_pass (r ∷ rs) q ws is f =
-        row_more (open_clear (known q vs ms ws 0 0 0 0 0) r f) (simp (phase_same, last_append, append_assoc) at (opens_pass rs 5 (ws ++ (r ∷ [])) is refl))
+        row_more (open_clear (known q vs ms ws 0 0 0 0 0) r f) (simp (phase_same, append_assoc) at (rise_from (λ r s. PairRises r.m r.guest s.m s.guest) no_open r ws rs (opens_pass rs 5 (ws ++ (r ∷ [])) is refl)))
 
     -- THE SECTIONS
     module _ (os : List Open) where

@@ -1,4 +1,6 @@
 // The limits of document 01 as code tests them, the types that a plan is made of in code and in definitions alike, and small steps that several crates take. What they mean stands in specs/.
+#![tactic(auto)]
+
 ghost use Rattle.std.specs.Prelude.{◌≡◌, max};
 ghost use Rattle.plan.specs.Refusals as refusals;
 ghost use Rattle.plan.specs.Rules as rules;
@@ -45,21 +47,21 @@ pub const LF: u8 = 10;
 pub const ENDED: u64 = 10;
 
 // Policy p: a VCPU is a periodic server (P) or a deferrable one (D).
-#[derive(Drop)]
+#[derive(Clone, Copy)]
 pub enum Policy {
     Periodic,
     Deferrable,
 }
 
 // The overrun choice o: overrun (O) or none (N).
-#[derive(Drop)]
+#[derive(Clone, Copy)]
 pub enum OverrunChoice {
     WithOverrun,
     WithoutOverrun,
 }
 
 // `lock m t`, and the `run t` after it.
-#[derive(Drop)]
+#[derive(Clone, Copy)]
 pub struct Lock {
     pub m: u64,
     pub ticks: u64,
@@ -67,7 +69,7 @@ pub struct Lock {
 }
 
 // Numbers that say no, 1 to 15 in this order (specs/Refusals).
-#[derive(Drop)]
+#[derive(Clone, Copy)]
 pub enum Refusal {
     Shape,
     Number,
@@ -87,14 +89,14 @@ pub enum Refusal {
 }
 
 // What is wrong with a line or an event: nothing, or one refusal.
-#[derive(Drop)]
+#[derive(Clone, Copy)]
 pub enum Fault {
     Clear,
     Bad(Refusal),
 }
 
 // A plan's refusal: its number, the line, and the field of that line, 0 for none.
-#[derive(Drop)]
+#[derive(Clone, Copy)]
 pub struct Complaint {
     pub number: Refusal,
     pub line: usize,
@@ -113,7 +115,7 @@ pub fn no_room() -> Complaint
 }
 
 // The kinds of lines: those of a plan in its order, then those of events.
-#[derive(Drop)]
+#[derive(Clone, Copy)]
 pub enum Kind {
     PlanLine,
     PolicyPO,
@@ -137,7 +139,7 @@ pub enum Kind {
 }
 
 // The kind of a line, if it has one.
-#[derive(Drop)]
+#[derive(Clone, Copy)]
 pub enum Found {
     Is(Kind),
     Nothing,

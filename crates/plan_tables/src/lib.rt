@@ -1,4 +1,6 @@
 // The tables: how lent rows of numbers hold a plan. specs/Layout says where each number stands.
+#![tactic(auto)]
+
 ghost use Rattle.std.specs.Prelude.{◌≡◌, ◌≤◌, get_or};
 ghost use Rattle.laws.specs.Rows.{Is};
 ghost use Rattle.plan_tables.specs.Layout.{task_width};
@@ -26,7 +28,7 @@ pub const TASK_WIDTH: usize = FIRST_LOCK + MAX_LOCKS as usize * LOCK_WIDTH;
 pub const MOST: usize = MAX_M as usize * MAX_GUEST as usize;
 
 // The plan record: the policy, the overrun choice, and how many rows of each table are the plan's.
-#[derive(Drop)]
+#[derive(Clone, Copy)]
 pub struct PlanRecord {
     pub policy: Policy,
     pub overrun: OverrunChoice,

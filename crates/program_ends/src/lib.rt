@@ -1,4 +1,6 @@
 // What the end of a read or a write says: how many bytes a read has put, and which errors are no faults. Of the system it names only those errors; it reads and writes nothing.
+#![tactic(auto)]
+
 ghost use Rattle.std.specs.Prelude.{◌≡◌};
 ghost use Rattle.program_ends.specs.Ends.{more_bytes, is_absent, is_closed};
 

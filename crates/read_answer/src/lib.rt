@@ -1,4 +1,6 @@
 // The answer to bytes offered as a plan. What it is for all bytes and tables stands in specs/Into; what lines judged one after the other answer and leave, in specs/Judged.
+#![tactic(auto)]
+
 ghost use Rattle.std.specs.Prelude.{◌≡◌};
 ghost use Rattle.plan.specs.Refusals.{complaint};
 ghost use Rattle.read_answer.specs.Into as into;
@@ -9,7 +11,7 @@ use plan_tables::PlanRecord;
 use read_tally::Tally;
 
 // The answer to bytes offered as a plan: accepted with the plan record, or refused with number, line and field.
-#[derive(Drop)]
+#[derive(Clone, Copy)]
 pub enum PlanAnswer {
     Accepted(PlanRecord),
     Refused(Complaint),

@@ -1,4 +1,6 @@
 // The rows of a plan's lines: their cells in lent tables. What they mean stands in specs/Fill.
+#![tactic(auto)]
+
 ghost use Rattle.std.specs.Prelude.{◌≡◌, ◌≤◌};
 ghost use Rattle.laws.specs.Rows.{Is};
 ghost use Rattle.plan_tables.specs.Layout.{task_width};

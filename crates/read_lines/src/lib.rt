@@ -1,4 +1,6 @@
 // Bytes offered as a plan, judged line by line, with what each line says written into tables.
+#![tactic(auto)]
+
 ghost use Rattle.std.specs.Prelude.{◌≡◌};
 ghost use Rattle.laws.specs.Bytes.{pieces};
 ghost use Rattle.plan.specs.Limits.{lf};

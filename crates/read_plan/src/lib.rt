@@ -1,4 +1,6 @@
 // The reader: any bytes into lent tables by `read_plan`, whose refusals change nothing that was lent; the loop below it is `read_lines`. What `read_plan` answers stands in specs/Into of `read_answer`.
+#![tactic(auto)]
+
 ghost use Rattle.std.specs.Prelude.{◌≡◌};
 ghost use Rattle.laws.specs.Bytes.{pieces};
 ghost use Rattle.plan.specs.Limits.{lf};

@@ -1,4 +1,6 @@
 // What is counted of a plan's lines: the rows of each table, the policy, the overrun choice, and the locks of the last task. What it means stands in specs/Tally.
+#![tactic(auto)]
+
 ghost use Rattle.std.specs.Prelude.{◌≡◌};
 ghost use Rattle.read_tally.specs.Tally as tallies;
 
@@ -7,7 +9,7 @@ use plan_tables::{MOST, PlanRecord};
 use text_lines::Said;
 
 // What some lines say: the policy, the overrun choice, the rows of each table, and the locks of the last task.
-#[derive(Drop)]
+#[derive(Clone, Copy)]
 pub struct Tally {
     pub policy: Policy,
     pub overrun: OverrunChoice,

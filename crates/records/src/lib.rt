@@ -1,4 +1,6 @@
 // The tables with tasks as a lent slice of records: thin functions copy the records out, one after the other, and the covered functions over numbers do the work (`records_saved` copies them in). What a record's numbers are stands in specs/Sheet.
+#![tactic(auto)]
+
 ghost use Rattle.std.specs.Prelude.{◌≡◌, [], ◌∷◌, ◌+◌, ◌*◌, ◌<◌, ◌≤◌, min, length, get_or};
 ghost use Rattle.std.proofs.lemmas.List.Edits.{sets};
 ghost use Rattle.plan.specs.Limits.{most_tasks};
@@ -12,7 +14,7 @@ use plan_tables::{FIRST_LOCK, LOCK_WIDTH, TASK_WIDTH};
 const ROWS: usize = MOST_TASKS * TASK_WIDTH;
 
 // A task: its VCPU, its number, its period, its first run, how many locks it has, and its locks.
-#[derive(Drop)]
+#[derive(Clone, Copy)]
 pub struct Task {
     pub v: u64,
     pub n: u64,

@@ -1,4 +1,6 @@
 // What is asked of tables with tasks as a lent slice of records: the records' numbers are loaded, and the covered functions over numbers answer.
+#![tactic(auto)]
+
 ghost use Rattle.std.specs.Prelude.{◌≡◌, ◌≤◌, length, take};
 ghost use Rattle.plan_tables.specs.Layout.{lent};
 ghost use Rattle.listing_asked.specs.Asked.{text_asked, text_left};
@@ -45,7 +47,7 @@ pub fn reply(
 }
 
 // What is written of the plan in lent tables: its listing, or its own bytes.
-#[derive(Drop)]
+#[derive(Clone, Copy)]
 pub enum Text {
     Listing,
     Plan,

@@ -1,4 +1,6 @@
 // The board for tables with tasks as a lent slice of records: the records' numbers are loaded, and the covered functions over numbers answer.
+#![tactic(auto)]
+
 ghost use Rattle.std.specs.Prelude.{◌≡◌, ◌≤◌, length, take};
 ghost use Rattle.plan_tables.specs.Layout.{lent};
 ghost use Rattle.board_tables.specs.Entered.{fresh_for, step_for};

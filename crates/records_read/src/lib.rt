@@ -1,4 +1,6 @@
 // Any bytes into lent tables whose tasks are a slice of records: the plan is read into rows of numbers, and these are copied into the records. What is answered and left stands in specs/After.
+#![tactic(auto)]
+
 ghost use Rattle.std.specs.Prelude.{◌≡◌, ◌*◌, ◌≤◌, length};
 ghost use Rattle.plan.specs.Limits.{most_tasks};
 ghost use Rattle.plan_tables.specs.Layout.{lent, task_width};

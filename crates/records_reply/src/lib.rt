@@ -1,4 +1,6 @@
 // What is replied to a question about tables of numbers: the covered functions over numbers answer. What it is stands in specs/Replies.
+#![tactic(auto)]
+
 ghost use Rattle.std.specs.Prelude.{◌≡◌};
 ghost use Rattle.plan_tables.specs.Layout.{lent};
 ghost use Rattle.records_reply.specs.Replies.{reply_to};
@@ -8,7 +10,7 @@ use clock_rules::RunAnswer;
 use plan_tables::PlanRecord;
 
 // What may be asked of lent tables: the test for 9, how late a VCPU can finish, how long task (v, n) can wait at a lock place, how late it can finish, the response of its global section at a lock place, and the run to horizon h on a clock.
-#[derive(Drop)]
+#[derive(Clone, Copy)]
 pub enum Question {
     IsGiven,
     VcpuTime { v: u64 },
@@ -19,7 +21,7 @@ pub enum Question {
 }
 
 // What is replied.
-#[derive(Drop)]
+#[derive(Clone, Copy)]
 pub enum Replied {
     Given(bool),
     Row(RowAnswer),

@@ -1,4 +1,6 @@
 // Rows of numbers as records: written over a lent slice of them, or kept in a table of eight and copied back. What a row's record is stands in specs/Sheet of `records`.
+#![tactic(auto)]
+
 ghost use Rattle.std.specs.Prelude.{◌≡◌, ◌*◌, ◌<◌, ◌≤◌, length};
 ghost use Rattle.plan.specs.Limits.{most_tasks};
 ghost use Rattle.plan_tables.specs.Layout.{task_width, lock_row};

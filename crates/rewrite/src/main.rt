@@ -1,4 +1,6 @@
 // Reads a plan on standard input into tables and prints it as it is written from these, or its refusal.
+#![tactic(auto)]
+
 use program::Input;
 
 // One byte more than is judged is read, so that a longer input is seen to be longer.

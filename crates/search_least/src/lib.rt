@@ -1,4 +1,6 @@
 // The search itself: the recurrence is run over the demand of the rows. What it means stands in search: specs/Search.
+#![tactic(auto)]
+
 ghost use Rattle.std.specs.Prelude.{◌≡◌, ◌*◌, ◌≤◌, ◌<◌, length};
 ghost use Rattle.laws.specs.Sums.{Each};
 ghost use Rattle.search.specs.Search.{solve};

@@ -1,4 +1,6 @@
 // The rows of a search in a slice: a row is pushed, and the demand of the rows is added up, capped above every limit. What it means stands in search: specs/Row.
+#![tactic(auto)]
+
 ghost use Rattle.std.specs.Prelude.{◌≡◌, ◌+◌, ◌*◌, ◌≤◌, ◌<◌, ◌^◌, min, length};
 ghost use Rattle.laws.specs.Sums.{up, Each};
 ghost use Rattle.search.specs.Row.{cap, IsUpTo, share, rows_demand, Sound, row_in, rows_in, pushed};

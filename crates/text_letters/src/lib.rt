@@ -1,4 +1,6 @@
 // Bytes, words and numbers, written at the start of a lent buffer, and their sizes. The texts are those of specs/Tabbed.
+#![tactic(auto)]
+
 ghost use Rattle.std.specs.Prelude.{◌≡◌, [], ◌∷◌, ◌++◌, ◌+◌, ◌≤◌, ◌%◌, length};
 ghost use Rattle.laws.specs.Choice.{if◌then◌else◌};
 ghost use Rattle.laws.specs.Decimal.{decimal};

@@ -56,7 +56,7 @@ Read k =
 read_kind : (k : Kind) → Read k
 unfolding shape size nums_of numbers_by said_by pick_of place_of when field
 read_kind k =
-    elim k [
+    elim k as (λ k. Read k) [
       | PlanLine ↦ λ l. (refl, refl)
       | PolicyPO ↦ λ l. (refl, refl)
       | PolicyPN ↦ λ l. (refl, refl)

@@ -1,4 +1,6 @@
 // The fields of one line, and what it says. What they mean stands in specs/ of `laws` and `plan`.
+#![tactic(auto)]
+
 ghost use Rattle.std.specs.Prelude.{◌≡◌, ◌+◌, length, take, drop};
 ghost use Rattle.laws.specs.Choice.{when};
 ghost use Rattle.laws.specs.Fields.{before, after, count};
@@ -68,7 +70,7 @@ fn tally(s: &[u8], b: u8) -> usize
 }
 
 // What a line says: its kind, and its numbers from left to right, 0 where there are fewer.
-#[derive(Drop)]
+#[derive(Clone, Copy)]
 pub struct Said {
     pub found: Found,
     pub a: u64,

@@ -1,4 +1,6 @@
 // The number of a field. What it means stands in specs/ of `laws` and `plan`.
+#![tactic(auto)]
+
 ghost use Rattle.std.specs.Prelude.{◌≡◌, ◌≤◌, length};
 ghost use Rattle.laws.specs.Decimal.{digit_of, scan, starts};
 ghost use Rattle.plan.specs.Line.{number_at};

@@ -1,4 +1,6 @@
 // The line reader: a record that refers to the input. What a line is stands in specs/Scan.
+#![tactic(auto)]
+
 ghost use Rattle.std.specs.Prelude.{◌≡◌, true, ◌+◌, ◌<◌, ◌≤◌, ◌^◌, drop};
 ghost use Rattle.laws.specs.Choice.{if◌then◌else◌};
 ghost use Rattle.text_scan.specs.Scan.{line_at, step_at};
@@ -7,7 +9,7 @@ use plan::LF;
 use text_lines::Said;
 
 // A line: whether an LF ends it, and if none does, whether nothing is left; what it says; and where the next line begins.
-#[derive(Drop)]
+#[derive(Clone, Copy)]
 pub struct Line {
     pub ended: bool,
     pub empty: bool,
@@ -16,7 +18,7 @@ pub struct Line {
 }
 
 // The input, the place where the next line begins, and that line's number.
-#[derive(Drop)]
+#[derive(Clone, Copy)]
 pub struct LineReader<'a> {
     src: &'a [u8],
     at: usize,
@@ -86,7 +88,7 @@ pub fn moved<'a>(r: LineReader<'a>, next: usize) -> LineReader<'a>
 }
 
 // A line, and where the line after begins, with its number.
-#[derive(Drop)]
+#[derive(Clone, Copy)]
 pub struct Step {
     pub line: Line,
     pub at: usize,

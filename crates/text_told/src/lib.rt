@@ -1,4 +1,6 @@
 // Texts told one behind another into a lent buffer: written where `on`, else only counted.
+#![tactic(auto)]
+
 ghost use Rattle.std.specs.Prelude.{[], ◌∷◌};
 ghost use Rattle.laws.specs.Decimal.{decimal};
 ghost use Rattle.text_letters.specs.Tabbed.{tabbed, rest};

@@ -1,4 +1,6 @@
 // The words of a line, and its kind. What they mean stands in specs/ of `plan`; a word as one number in specs/Keys.
+#![tactic(auto)]
+
 ghost use Rattle.std.specs.Prelude.{◌≡◌};
 ghost use Rattle.text_words.specs.Keys as keys;
 

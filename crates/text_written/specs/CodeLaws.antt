@@ -19,7 +19,7 @@ Tested k =
 test_kind : (k : Kind) → Tested k
 unfolding shape size nums_of when written written_by unwritten spot_of unwritten_by
 test_kind k =
-    elim k [
+    elim k as (λ k. Tested k) [
       | PlanLine ↦ λ a b c d e. (refl, refl)
       | PolicyPO ↦ λ a b c d e. (refl, refl)
       | PolicyPN ↦ λ a b c d e. (refl, refl)

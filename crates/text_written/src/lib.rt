@@ -1,4 +1,6 @@
 // The numbers of one line: how many a line of a kind has, and which of them are not written as they should be. What that means stands in specs/ of `plan`.
+#![tactic(auto)]
+
 ghost use Rattle.std.specs.Prelude.{◌≡◌};
 ghost use Rattle.plan.specs.Line.{shape, size, written, nums_of};
 ghost use Rattle.plan.specs.Fields.{unwritten};

@@ -1,4 +1,6 @@
 // Rows of the searches of VCPUs: which VCPUs are lower on a core, and the row of a higher one. What the rows are stands in specs/Costs of `figures_slices`.
+#![tactic(auto)]
+
 ghost use Rattle.std.specs.Prelude.{◌≡◌, ◌+◌, ◌-◌, ◌*◌, ◌<◌, ◌≤◌, length};
 ghost use Rattle.laws.specs.Choice.{when};
 ghost use Rattle.search.specs.Row.{pushed};

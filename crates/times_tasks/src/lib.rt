@@ -1,4 +1,6 @@
 // The searches of tasks, over rows that are written once for each search.
+#![tactic(auto)]
+
 ghost use Rattle.std.specs.Prelude.{◌≡◌, ◌&&◌, map, ◌+◌, ◌*◌, ◌<◌, ◌≤◌, length};
 ghost use Rattle.laws.specs.Sums.{only, Each};
 ghost use Rattle.laws.specs.Rows.{rows as rows_of};

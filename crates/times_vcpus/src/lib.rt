@@ -1,4 +1,6 @@
 // The searches of VCPUs, over rows that are written once for each search. What the rows are stands in specs/Costs of `figures_slices`.
+#![tactic(auto)]
+
 ghost use Rattle.std.specs.Prelude.{◌≡◌, ◌&&◌, ◌++◌, map, ◌+◌, ◌<◌, ◌≤◌, eqb, length};
 ghost use Rattle.laws.specs.Choice.{when};
 ghost use Rattle.laws.specs.Sums.{sum, only};

@@ -1,4 +1,6 @@
 // The searches of waits: how long a task can wait at a lock, over rows that are written once for each search (specs/Costs of `figures_slices`).
+#![tactic(auto)]
+
 ghost use Rattle.std.specs.Prelude.{◌≡◌, true, ◌*◌, ◌<◌, ◌≤◌, ltb, length};
 ghost use Rattle.laws.specs.Choice.{when};
 ghost use Rattle.laws.specs.Sums.{sum, greatest};

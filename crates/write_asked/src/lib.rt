@@ -1,1 +1,3 @@
 // A plan's bytes asked for of lent tables: this crate has definitions and proofs only, in specs/.
+#![tactic(auto)]
+

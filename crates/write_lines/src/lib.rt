@@ -1,4 +1,6 @@
 // The lines of a plan, each told behind the first n bytes of a lent buffer: written where `on`, else only counted. The texts are those of specs/Text of `plan`.
+#![tactic(auto)]
+
 ghost use Rattle.std.specs.Prelude.{[], ◌∷◌, ◌++◌};
 ghost use Rattle.laws.specs.Decimal.{decimal};
 ghost use Rattle.plan.specs.Text.{owned_item, text_of};

@@ -1,4 +1,6 @@
 // The lines of a plan's rows, told one behind another: written where `on`, else only counted. Which lines a row has stands in specs/Feed of `given_test`.
+#![tactic(auto)]
+
 ghost use Rattle.std.specs.Prelude.{◌≡◌, true, [], ◌≤◌, ◌<◌};
 ghost use Rattle.laws.specs.Rows.{rows};
 ghost use Rattle.plan.specs.Limits.{max_locks};
@@ -13,7 +15,7 @@ use given_tidy::{begins_after, cell, host_after};
 use plan_tables::{FIRST_LOCK, LOCK_WIDTH, MUTEX_WIDTH, OPEN_WIDTH, TASK_WIDTH, VCPU_WIDTH};
 
 // The tables whose rows have one line each.
-#[derive(Drop)]
+#[derive(Clone, Copy)]
 pub enum Rows {
     Vcpus,
     Mutexes,

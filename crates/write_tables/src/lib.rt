@@ -1,4 +1,6 @@
 // A plan's bytes from lent tables into a lent buffer: 9 first, then 8. What is asked stands in specs/Asked of `write_asked`.
+#![tactic(auto)]
+
 ghost use Rattle.std.specs.Prelude.{◌≡◌, true, ◌≤◌, length};
 ghost use Rattle.plan.specs.Text.{text};
 ghost use Rattle.plan_tables.specs.Layout.{lent};

@@ -1,0 +1,18 @@
+-- `ceiling_of` meets its contract.
+use Prim.Native.Nat.{◌-◌}
+use Rattle.figures.specs.Figures.{ceiling}
+use Rattle.figures.specs.Tabled.{system_in}
+use Rattle.laws.specs.RowLaws.{greatest_all, greatest_more, greatest_none}
+use Rattle.figures_sections.proofs.ceiling_of.Goals as goal
+
+pub loop-h-init : goal.loop-h-init
+unfolding ceiling system_in
+loop-h-init c = greatest_none
+
+pub loop-h-preserved : goal.loop-h-preserved
+unfolding ceiling system_in
+loop-h-preserved c = greatest_more c.loop-h.invariant c.loop-h-test.true c.ceiling_at-x.ensures c.larger-s.ensures
+
+pub returns : goal.returns
+unfolding ceiling system_in
+returns c = greatest_all c.loop-h.invariant c.loop-h-test.false

@@ -1,0 +1,7 @@
+-- `text_lines::size_in` meets its contract.
+use mathlib.Core.Path.{ap, sym, ◌∙◌}
+use Rattle.text_lines.specs.Code.{size_in}
+use Rattle.text_lines.proofs.size_in.Goals as goal
+
+pub returns-in-Is : goal.returns-in-Is
+returns-in-Is c = c.size_of.ensures ∙ ap size_in (sym c.in-Is.is)
