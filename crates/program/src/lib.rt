@@ -1,12 +1,14 @@
 // What a program reads and writes. Where that fails it says what and why on standard error, where it says nothing else; only of a reader that has closed the pipe it says nothing, since the system's signal says that.
 #![tactic(auto)]
 
-ghost use Rattle.std.specs.Prelude.{◌≡◌, ◌-◌, ◌≤◌, length, take};
-ghost use Rattle.program.specs.Told.{Handed, Moved, input_after};
+ghost use Rattle.std.specs.Prelude.{◌≡◌, ◌-◌, ◌≤◌, ◌<ℤ◌, pos, length, take, IsSome};
+ghost use Rattle.std.specs.Process.{exit_status};
+ghost use Rattle.program.specs.Told.{Handed, Moved, input_after, is_missing, is_reader_gone, status_after};
 
 use program_ends::{is_absent, is_closed, more};
 use std::fs::File;
 use std::io::{ErrorKind, Input as StandardInput, Read};
+use std::process::ExitCode;
 use std::rt::Files;
 use std::{io, str};
 
@@ -48,6 +50,7 @@ fn read_on<R: Read>(
     requires { done ≤ length buf.old }
     ensures moved { Moved (length buf.old - done) result }
     ensures buf_unchanged { take done buf.new ≡ take done buf.old }
+    ensures reason { result <ℤ pos 0 → IsSome fault.new }
 {
     match input.read(&mut buf[done..]) {
         Ok(n) => n as isize,
@@ -60,7 +63,8 @@ fn read_on<R: Read>(
 
 // Reads until the input ends or the buffer is full; `fault` is why it cannot be read.
 fn read_all<R: Read>(input: &mut R, buf: &mut [u8], fault: &mut Option<io::Error>) -> Input
-    ensures { Handed result buf.new }
+    ensures handed { Handed result buf.new }
+    ensures reason { result ≡ Input.Unread → IsSome fault.new }
 {
     let mut done = 0;
     while done < buf.len() {
@@ -101,6 +105,16 @@ fn open<R: Files>(rt: &R, name: &[u8]) -> io::Result<R::File> {
     }
 }
 
+// Whether an error says that there is no file of that name.
+fn is_missing(error: &io::Error) -> bool
+    ensures { result ≡ is_missing error.now }
+{
+    match error.raw_os_error() {
+        Some(code) => is_absent(code),
+        None => false,
+    }
+}
+
 // Reads a file by its name; an absent one counts as empty.
 pub fn read_file(rt: &(impl Files + Eprint), name: &[u8], buf: &mut [u8]) -> Input
     ensures { Handed result buf.new }
@@ -109,32 +123,56 @@ pub fn read_file(rt: &(impl Files + Eprint), name: &[u8], buf: &mut [u8]) -> Inp
         Ok(mut file) => return read_open(rt, &mut file, name, buf),
         Err(error) => error,
     };
-    if error.raw_os_error().is_some_and(|code| is_absent(code)) {
+    if is_missing(&error) {
         return Input::Bytes(0);
     }
     tell(rt, name, error);
     Input::Unread
 }
 
+// Whether an error says that the reader has closed the pipe.
+fn is_reader_gone(error: &io::Error) -> bool
+    ensures { result ≡ is_reader_gone error.now }
+{
+    match error.raw_os_error() {
+        Some(code) => is_closed(code),
+        None => false,
+    }
+}
+
 // Says that standard output cannot be written; a reader that has closed it wants no more, and nothing is said.
 fn tell_output(rt: &impl Eprint, error: io::Error) {
-    if !error.raw_os_error().is_some_and(|code| is_closed(code)) {
+    if !is_reader_gone(&error) {
         tell(rt, b"standard output", error);
     }
 }
 
-// Writes a part of an answer, and returns whether all of it is written.
-pub fn write(rt: &(impl Print + Eprint), part: &[u8]) -> bool {
-    match rt.write_all(part) {
-        Ok(()) => true,
-        Err(error) => {
-            tell_output(rt, error);
-            false
-        }
+// Writes a part of an answer; where not all of it is written, that is told.
+pub fn write(rt: &(impl Print + Eprint), part: &[u8]) -> io::Result<()> {
+    let written = rt.write_all(part);
+    if let Err(error) = written {
+        tell_output(rt, error);
     }
+    written
 }
 
 // Writes an answer, or its last part.
-pub fn print(rt: &(impl Print + Eprint), answer: &[u8]) {
-    write(rt, answer);
+pub fn print(rt: &(impl Print + Eprint), answer: &[u8]) -> io::Result<()> {
+    write(rt, answer)
+}
+
+// The status with which a program ends, by how its answer was written: 0 where all of it was; 141 where the reader has closed the pipe, as of a program that the signal of that ends; else 1.
+pub fn status(written: io::Result<()>) -> ExitCode
+    ensures { exit_status result ≡ status_after written }
+{
+    match written {
+        Ok(()) => ExitCode::SUCCESS,
+        Err(error) => {
+            if is_reader_gone(&error) {
+                ExitCode::from(141)
+            } else {
+                ExitCode::FAILURE
+            }
+        }
+    }
 }
