@@ -1,8 +1,10 @@
 // What a program reads and writes. Where that fails it says what and why on standard error, where it says nothing else; only of a reader that has closed the pipe it says nothing, since the status of the program says that.
 #![tactic(auto)]
 
-ghost use Rattle.std.specs.Prelude.{◌≡◌, ◌-◌, ◌≤◌, ◌<ℤ◌, pos, length, take, IsSome};
+ghost use Rattle.std.specs.Prelude.{◌≡◌, ℕ, ◌-◌, ◌≤◌, ◌<◌, ◌<ℤ◌, pos, length, take, drop, IsSome};
 ghost use Rattle.std.specs.Process.{exit_status};
+ghost use Rattle.std.specs.Io.KnownBytes.{Consumes, IsAtEnd};
+ghost use Rattle.program_ends.specs.Ends.{more_bytes};
 ghost use Rattle.program.specs.Told.{Handed, Moved, input_after, is_missing, is_reader_gone, status_after};
 
 use program_ends::{is_absent, is_closed, more};
@@ -50,6 +52,8 @@ fn read_on<R: Read>(
     requires { done ≤ length buf.old }
     ensures moved { Moved (length buf.old - done) result }
     ensures buf_unchanged { take done buf.new ≡ take done buf.old }
+    ensures bytes { Consumes (R.remaining input.old) (R.remaining input.new) (take (more_bytes result) (drop done buf.new)) }
+    ensures end { result ≡ pos 0 → done < length buf.old → IsAtEnd (R.remaining input.new) }
     ensures reason { result <ℤ pos 0 → IsSome fault.new }
 {
     match input.read(&mut buf[done..]) {
@@ -61,9 +65,11 @@ fn read_on<R: Read>(
     }
 }
 
-// Reads until the input ends or the buffer is full; `fault` is why it cannot be read.
+// Reads until the input ends or the buffer is full; `fault` is why it cannot be read. Of an input whose bytes are known, those are handed on that it gives, all of them or as many as the buffer takes.
 fn read_all<R: Read>(input: &mut R, buf: &mut [u8], fault: &mut Option<io::Error>) -> Input
     ensures handed { Handed result buf.new }
+    ensures bytes { (n : ℕ) → result ≡ Input.Bytes n → Consumes (R.remaining input.old) (R.remaining input.new) (take n buf.new) }
+    ensures end { (n : ℕ) → result ≡ Input.Bytes n → n < length buf.old → IsAtEnd (R.remaining input.new) }
     ensures reason { result ≡ Input.Unread → IsSome fault.new }
 {
     let mut done = 0;
@@ -80,7 +86,9 @@ fn read_all<R: Read>(input: &mut R, buf: &mut [u8], fault: &mut Option<io::Error
 
 // Reads an open input, and says so under its name where it cannot be read.
 fn read_open<R: Read>(rt: &impl Eprint, input: &mut R, name: &[u8], buf: &mut [u8]) -> Input
-    ensures { Handed result buf.new }
+    ensures handed { Handed result buf.new }
+    ensures bytes { (n : ℕ) → result ≡ Input.Bytes n → Consumes (R.remaining input.old) (R.remaining input.new) (take n buf.new) }
+    ensures end { (n : ℕ) → result ≡ Input.Bytes n → n < length buf.old → IsAtEnd (R.remaining input.new) }
 {
     let mut fault = None;
     let given = read_all(input, buf, &mut fault);
