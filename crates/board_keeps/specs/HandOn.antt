@@ -15,7 +15,8 @@ use Rattle.board_keeps.specs.Fair.{Fair, InV, InN}
 use Rattle.board_keeps.specs.Shaped.{Shaped, holder_shaped}
 use Rattle.board_keeps.specs.Change.{holder_new, wait_new}
 use Rattle.board_keeps.specs.Faults.{FreeClear, free_clear}
-use Rattle.board_keeps.specs.Nexts.{HighestWaiter, GlobalNext, none_waits, top_waiter, global_next}
+use Rattle.board_keeps.specs.Nexts.{HighestWaiter, GlobalNext, none_waits, top_waiter}
+use Rattle.board_keeps.proofs.NextLaws.{global_next}
 
 read_next : {b : Board} {m : ℕ} {x : Next} → GlobalNext b m x → (w k : ℕ) → x ≡ To w k → HighestWaiter b m w k
 read_next (none_waits h) w k e = absurd (let z : ◌≡◌ {A = ℕ} 0 1 = cc in omega arith)

@@ -22,7 +22,8 @@ use Rattle.board_keeps.specs.Shaped.{Shaped, holder_shaped}
 use Rattle.board_keeps.specs.Locks.{Barred, Holding}
 use Rattle.board_keeps.specs.Good.{Budgeted, Sound, barred, good_sound, sound_good}
 use Rattle.board_keeps.specs.Change.{left_new, over_new, stopped_new, holder_new, wait_new}
-use Rattle.board_keeps.specs.Nexts.{GlobalNext, none_waits, top_waiter, global_next}
+use Rattle.board_keeps.specs.Nexts.{GlobalNext, none_waits, top_waiter}
+use Rattle.board_keeps.proofs.NextLaws.{global_next}
 use Rattle.board_keeps.specs.Faults.{AskClear, FreeClear, ask_clear, free_clear, use_clear, top_clear, may_free}
 use Rattle.board_keeps.specs.Moves.{HoldersBut, WaitsBut, WaitsFrom, waits_from, release_holding, grant_holding, clear_holding, await_holding, grant_waiting, await_waiting, global_waiting, local_waiting}
 

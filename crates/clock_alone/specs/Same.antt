@@ -22,7 +22,8 @@ use Rattle.board_keeps.specs.Shaped.{Shaped, step_shaped}
 use Rattle.board_keeps.specs.Change.{holder_new}
 use Rattle.board_keeps.specs.Faults.{ask_clear, free_clear, may_free}
 use Rattle.board_keeps.specs.Keeps.{step_keeps}
-use Rattle.board_keeps.specs.Marks.{own_vcpu, own_mark, own_settled}
+use Rattle.board_keeps.specs.Marks.{own_vcpu}
+use Rattle.board_keeps.proofs.MarkLaws.{own_mark, own_settled}
 use Rattle.clock_rules.specs.Clock.{Timing, done_of, is_on}
 use Rattle.clock_steps.specs.Taken.{ask_granted, ask_waits, free_global, free_local}
 use Rattle.clock_steps.specs.Quiet.{SameLocks, use_locks, top_locks}

@@ -4,8 +4,9 @@ use Rattle.std.proofs.Common.{ap, sym, ◌∙◌, add-zero, arith, length-append
 use Rattle.std.proofs.lemmas.Bool.{false≢true}
 use Rattle.laws.specs.Choice.{if◌then◌else◌}
 use Rattle.text_letters.specs.Wrote.{Wrote}
-use Rattle.text_told.specs.At.{told_both}
-pub use Rattle.text_told.specs.At.{told_at, RoomAt, told_none, told_off, told_length, room_first, begins_within, left_fits, told_on, told_fits}
+use Rattle.text_told.proofs.AtLaws.{told_both}
+pub use Rattle.text_told.specs.At.{told_at, RoomAt}
+pub use Rattle.text_told.proofs.AtLaws.{told_none, told_off, told_length, room_first, begins_within, left_fits, told_on, told_fits}
 
 -- the place behind it
 unfoldable pub told_to : Bool → List ℕ → ℕ → ℕ

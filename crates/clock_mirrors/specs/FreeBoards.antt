@@ -22,7 +22,8 @@ use Rattle.board_keeps.specs.Change.{holder_new, wait_new}
 use Rattle.board_keeps.specs.Good.{good_sound}
 use Rattle.board_keeps.specs.Locks.{Holding}
 use Rattle.board_keeps.specs.Moves.{HoldersBut, WaitsBut}
-use Rattle.board_keeps.specs.Nexts.{GlobalNext, none_waits, top_waiter, global_next}
+use Rattle.board_keeps.specs.Nexts.{GlobalNext, none_waits, top_waiter}
+use Rattle.board_keeps.proofs.NextLaws.{global_next}
 use Rattle.board_keeps.specs.Faults.{free_clear, passes_free}
 use Rattle.clock_steps.specs.InStep.{holds_same}
 use Rattle.clock_steps.specs.Taken.{free_global, free_local}

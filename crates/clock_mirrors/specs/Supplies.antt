@@ -20,7 +20,8 @@ use Rattle.board_keeps.specs.Fair.{Fair, InV}
 use Rattle.board_keeps.specs.Shaped.{Shaped}
 use Rattle.board_keeps.specs.Change.{left_new, over_new}
 use Rattle.board_keeps.specs.Faults.{use_clear}
-use Rattle.board_keeps.specs.Marks.{own_vcpu, own_mark, own_settled}
+use Rattle.board_keeps.specs.Marks.{own_vcpu}
+use Rattle.board_keeps.proofs.MarkLaws.{own_mark, own_settled}
 use Rattle.clock_rules.specs.Clock.{Timing}
 use Rattle.clock_sets.specs.Sets.{in_set}
 use Rattle.clock_marks.specs.Marks.{at_budget, at_spare, at_done, done_cell, done_in, spares, Mirrors}

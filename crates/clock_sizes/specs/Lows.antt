@@ -27,7 +27,8 @@ use Rattle.board_keeps.specs.Fair.{Fair, InV, task_v, sheet_v, sheet_n, sheet_m}
 use Rattle.board_keeps.specs.Shaped.{Shaped, step_shaped}
 use Rattle.board_keeps.specs.Good.{good_sound}
 use Rattle.board_keeps.specs.Faults.{ask_clear, free_clear, use_clear, top_clear}
-use Rattle.board_keeps.specs.Nexts.{GlobalNext, none_waits, top_waiter, global_next}
+use Rattle.board_keeps.specs.Nexts.{GlobalNext, none_waits, top_waiter}
+use Rattle.board_keeps.proofs.NextLaws.{global_next}
 use Rattle.board_keeps.specs.Keeps.{step_keeps}
 use Rattle.board_keeps.specs.LedgerLaws.{supply_le}
 use Rattle.log_answers.specs.Small.{Small}

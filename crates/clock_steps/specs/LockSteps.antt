@@ -15,7 +15,8 @@ use Rattle.board_keeps.specs.Good.{good_sound}
 use Rattle.board_keeps.specs.Change.{holder_new, wait_new}
 use Rattle.board_rules.specs.Names.{seat_some}
 use Rattle.board_rules.specs.Change.{holder_else, wait_else}
-use Rattle.board_keeps.specs.Nexts.{GlobalNext, none_waits, top_waiter, global_next}
+use Rattle.board_keeps.specs.Nexts.{GlobalNext, none_waits, top_waiter}
+use Rattle.board_keeps.proofs.NextLaws.{global_next}
 use Rattle.board_rules.specs.LocalNext.{LocalNext, no_waiter, top_fails, top_passes, local_next}
 use Rattle.board_keeps.specs.Faults.{ask_clear, may_free, passes_free}
 use Rattle.clock_rules.specs.Clock.{Timing}

@@ -20,7 +20,7 @@ use Rattle.board_rules.specs.Names.{seat_some}
 use Rattle.board_rules.specs.Change.{holder_else}
 use Rattle.board_keeps.specs.Faults.{ask_clear, may_free}
 use Rattle.board_rules.specs.Settle.{GlobalHold, global_hold, hold_global, still_not_due, settled_stopped, mark_stays}
-use Rattle.board_keeps.specs.Marks.{own_mark}
+use Rattle.board_keeps.proofs.MarkLaws.{own_mark}
 use Rattle.clock_steps.specs.Taken.{ask_granted, ask_waits}
 use Rattle.clock_steps.specs.Quiet.{same_global, use_locks, use_left, use_over}
 

@@ -13,7 +13,8 @@ use Rattle.given_test.specs.Feed.{lined, vcpu_lines, mutex_lines, open_lines, lo
 use Rattle.text_letters.specs.Wrote.{Joins}
 use Rattle.text_letters.specs.WroteLaws.{joins}
 use Rattle.text_letters.specs.Tabbed.{rest}
-use Rattle.text_told.specs.Told.{Space, Told, told_nothing, space_less, space_then, told_then, told_room, told_as}
+use Rattle.text_told.specs.Told.{Space, Told}
+use Rattle.text_told.proofs.ToldLaws.{told_nothing, space_less, space_then, told_then, told_room, told_as}
 use Rattle.write_lines.specs.Texts.{text_append, text_none, vcpu_text_law, open_text, guest_text, task_text_law, run_text_law, lock_text}
 use Rattle.write_rows.specs.Rows.{Rows, Vcpus, Mutexes, Opens, row_lines, task_told, ToldRows}
 

@@ -26,7 +26,8 @@ use Rattle.given_test.specs.TestLaws.{given_tests}
 use Rattle.given_test.specs.ItemLaws.{row_items_law}
 use Rattle.text_letters.specs.Wrote.{Wrote, Joins}
 use Rattle.text_letters.specs.WroteLaws.{joins}
-use Rattle.text_told.specs.At.{told_at, told_off}
+use Rattle.text_told.specs.At.{told_at}
+use Rattle.text_told.proofs.AtLaws.{told_off}
 use Rattle.text_told.specs.Told.{Space, Told}
 use Rattle.listing_lines.specs.declared.TextAnswer.TheVariants.{Written, Refused}
 use Rattle.listing_lines.specs.Into.{has_room, text_answer, text_after}

@@ -1,6 +1,6 @@
 -- `board_in` meets its contract.
 use borrow.Author.Rules.{rules}
-use Rattle.desk_rooms.specs.Whole.{whole_wrote, wrote_counted, board_fits}
+use Rattle.desk_rooms.proofs.WholeLaws.{whole_wrote, wrote_counted, board_fits}
 use Rattle.desk.proofs.board_in.Statement.{statement}
 use Rattle.desk.proofs.board_in.Tie as tie
 

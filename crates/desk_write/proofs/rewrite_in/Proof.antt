@@ -1,6 +1,6 @@
 -- `desk_write::rewrite_in` meets its contract.
 use borrow.Author.Rules.{rules}
-use Rattle.desk_rooms.specs.Whole.{whole_wrote, wrote_counted}
+use Rattle.desk_rooms.proofs.WholeLaws.{whole_wrote, wrote_counted}
 use Rattle.desk_write.specs.Rewritten.{rewrite_fits}
 use Rattle.desk_write.proofs.rewrite_in.Statement.{statement}
 use Rattle.desk_write.proofs.rewrite_in.Tie as tie

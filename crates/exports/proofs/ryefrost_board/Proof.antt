@@ -3,7 +3,8 @@ use mathlib.Core.Path.{ap, ◌∙◌}
 use native.Mathlib.Nat.{le_refl, lt_of_le_of_lt}
 use lib.Dec.{lit<}
 use borrow.Author.Rules.{rules}
-use Rattle.desk_rooms.specs.Whole.{board_bytes, board_fits}
+use Rattle.desk_rooms.specs.Whole.{board_bytes}
+use Rattle.desk_rooms.proofs.WholeLaws.{board_fits}
 use Rattle.exports_codes.specs.Exported.{exported, answer_bound, exported_fits, read_back}
 use Rattle.exports.proofs.ryefrost_board.Statement.{statement}
 use Rattle.exports.proofs.ryefrost_board.Tie as tie

@@ -1,7 +1,7 @@
 -- `text_told::tell` meets its contract.
 use borrow.Author.Rules.{rules}
 use mathlib.Core.Path.{refl}
-use Rattle.text_told.specs.Told.{within, fits_left, told_written, told_counted}
+use Rattle.text_told.proofs.ToldLaws.{within, fits_left, told_written, told_counted}
 use Rattle.text_told.proofs.tell.Goals as goal
 
 pub slice_bounds-put-count : goal.slice_bounds-put-count

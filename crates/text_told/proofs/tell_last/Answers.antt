@@ -5,7 +5,7 @@ use native.Mathlib.Omega.{arith}
 use Rattle.laws.specs.Decimal.{decimal}
 use Rattle.text_letters.specs.Tabbed.{rest}
 use Rattle.text_letters.specs.SizeLaws.{rest_sized, end_sized}
-use Rattle.text_told.specs.Told.{within, fits_left, told_written, told_counted}
+use Rattle.text_told.proofs.ToldLaws.{within, fits_left, told_written, told_counted}
 use Rattle.text_told.proofs.tell_last.Goals as goal
 
 pub slice_bounds-last_rest-count : goal.slice_bounds-last_rest-count

@@ -3,7 +3,7 @@ use borrow.Author.Rules.{rules}
 use native.Mathlib.Omega.{arith}
 use Rattle.laws.specs.Decimal.{decimal}
 use Rattle.text_letters.specs.Tabbed.{tabbed}
-use Rattle.text_told.specs.Told.{within, fits_left, told_written, told_counted}
+use Rattle.text_told.proofs.ToldLaws.{within, fits_left, told_written, told_counted}
 use Rattle.text_told.proofs.tell_number.Goals as goal
 
 pub slice_bounds-tab_number-count : goal.slice_bounds-tab_number-count

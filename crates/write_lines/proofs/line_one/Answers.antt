@@ -1,6 +1,6 @@
 -- `write_lines::line_one` meets its contract.
 use Rattle.text_letters.specs.WroteLaws.{joins}
-use Rattle.text_told.specs.Told.{space_first, space_then, told_then}
+use Rattle.text_told.proofs.ToldLaws.{space_first, space_then, told_then}
 use Rattle.write_lines.proofs.line_one.Goals as goal
 
 pub tell-k-requires : goal.tell-k-requires

@@ -1,7 +1,7 @@
 -- `write_lines::line_three` meets its contract.
 use Rattle.laws.specs.Decimal.{decimal}
 use Rattle.text_letters.specs.TabbedLaws.{rest_joins}
-use Rattle.text_told.specs.Told.{space_first, space_then, told_then}
+use Rattle.text_told.proofs.ToldLaws.{space_first, space_then, told_then}
 use Rattle.write_lines.specs.Texts.{word_joins}
 use Rattle.write_lines.proofs.line_three.Goals as goal
 

@@ -1,6 +1,6 @@
 -- `write_lines::line_two` meets its contract.
 use Rattle.laws.specs.Decimal.{decimal}
-use Rattle.text_told.specs.Told.{space_first, space_then, told_then}
+use Rattle.text_told.proofs.ToldLaws.{space_first, space_then, told_then}
 use Rattle.write_lines.specs.Texts.{word_joins}
 use Rattle.write_lines.proofs.line_two.Goals as goal
 

@@ -1,5 +1,5 @@
 -- `write_lines::mutex_line` meets its contract.
-use Rattle.text_told.specs.Told.{space_first, space_then, told_then}
+use Rattle.text_told.proofs.ToldLaws.{space_first, space_then, told_then}
 use Rattle.write_lines.specs.Texts.{mutex_joins}
 use Rattle.write_lines.proofs.mutex_line.Goals as goal
 

@@ -1,5 +1,5 @@
 -- `write_lines::owner_rest` meets its contract.
-use Rattle.text_told.specs.Told.{space_as, told_as, space_first, space_then, told_then}
+use Rattle.text_told.proofs.ToldLaws.{space_as, told_as, space_first, space_then, told_then}
 use Rattle.write_lines.specs.Texts.{global_rest, local_joins}
 use Rattle.write_lines.proofs.owner_rest.Goals as goal
 

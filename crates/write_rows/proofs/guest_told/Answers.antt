@@ -1,5 +1,5 @@
 -- `write_rows::guest_told` meets its contract.
-use Rattle.text_told.specs.Told.{space_as, told_as, told_nothing}
+use Rattle.text_told.proofs.ToldLaws.{space_as, told_as, told_nothing}
 use Rattle.write_rows.specs.RowTexts.{guest_lines, guest_none}
 use Rattle.write_rows.proofs.guest_told.Goals as goal
 

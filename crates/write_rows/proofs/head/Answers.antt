@@ -1,5 +1,5 @@
 -- `write_rows::head` meets its contract.
-use Rattle.text_told.specs.Told.{space_first, space_then, told_then}
+use Rattle.text_told.proofs.ToldLaws.{space_first, space_then, told_then}
 use Rattle.write_rows.specs.RowTexts.{head_lines_law}
 use Rattle.write_rows.proofs.head.Goals as goal
 

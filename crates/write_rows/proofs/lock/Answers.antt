@@ -1,5 +1,5 @@
 -- `write_rows::lock` meets its contract.
-use Rattle.text_told.specs.Told.{space_first, space_then, told_then}
+use Rattle.text_told.proofs.ToldLaws.{space_first, space_then, told_then}
 use Rattle.write_rows.specs.RowTexts.{lock_lines_law}
 use Rattle.write_rows.proofs.lock.Goals as goal
 

@@ -1,5 +1,5 @@
 -- `write_rows::row` meets its contract.
-use Rattle.text_told.specs.Told.{space_as, told_as}
+use Rattle.text_told.proofs.ToldLaws.{space_as, told_as}
 use Rattle.write_rows.specs.RowTexts.{vcpu_row_law, mutex_row_law, open_row_law}
 use Rattle.write_rows.proofs.row.Goals as goal
 

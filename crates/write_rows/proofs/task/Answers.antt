@@ -1,7 +1,7 @@
 -- `write_rows::task` meets its contract.
 use borrow.Author.Rules.{rules}
 use Rattle.text_letters.specs.WroteLaws.{joins}
-use Rattle.text_told.specs.Told.{space_first, space_then, told_then}
+use Rattle.text_told.proofs.ToldLaws.{space_first, space_then, told_then}
 use Rattle.write_rows.specs.RowTexts.{task_lines_law}
 use Rattle.write_rows.proofs.task.Goals as goal
 

@@ -6,7 +6,7 @@ use Rattle.laws.specs.Rows.{rows}
 use Rattle.plan_tables.specs.Layout.{vcpu_row}
 use Rattle.given_tidy.specs.GuestLaws.{begins_after, last_next}
 use Rattle.given_tidy.specs.TestLaws.{few_locks}
-use Rattle.text_told.specs.Told.{space_as, told_as}
+use Rattle.text_told.proofs.ToldLaws.{space_as, told_as}
 use Rattle.write_rows.specs.RowTexts.{task_told_law, told_no_rows, space_row, told_row, rows_length, told_rows}
 use Rattle.write_rows.proofs.tasks_told.Goals as goal
 

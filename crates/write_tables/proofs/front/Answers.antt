@@ -1,5 +1,5 @@
 -- `write_tables::front` meets its contract.
-use Rattle.text_told.specs.Told.{space_as, told_as}
+use Rattle.text_told.proofs.ToldLaws.{space_as, told_as}
 use Rattle.write_tables.specs.Parts.{front_told}
 use Rattle.write_tables.proofs.front.Goals as goal
 

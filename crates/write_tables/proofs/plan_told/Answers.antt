@@ -1,7 +1,7 @@
 -- `write_tables::plan_told` meets its contract.
 use borrow.Author.Rules.{rules}
 use Rattle.plan_tables.specs.Layout.{lent}
-use Rattle.text_told.specs.Told.{space_first, space_then, told_then}
+use Rattle.text_told.proofs.ToldLaws.{space_first, space_then, told_then}
 use Rattle.write_tables.specs.Parts.{plan_joins, vcpus_joins, mutexes_joins, opens_joins, tasks_joins, given_few, given_tidy, space_plan}
 use Rattle.write_tables.proofs.plan_told.Goals as goal
 
