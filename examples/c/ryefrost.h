@@ -1,5 +1,5 @@
 /* The proved functions for C, in two archives for x86-64: ryefrost_verdict, ryefrost_board and ryefrost_run in libexports.a
- * (`rt staticlib exports`: target/staticlib/libexports.a), ryefrost_write in libexports_write.a (`rt staticlib
+ * (`./ryefrost archive exports`: target/staticlib/libexports.a), ryefrost_write in libexports_write.a (`./ryefrost archive
  * exports_write`). A program may link both.
  *
  * The first two write the text that a program prints into `out` and return its size in bytes. With too little room they

@@ -2,18 +2,19 @@
 #![tactic(auto)]
 
 use program::Input;
+use std::process::ExitCode;
 
 // One byte more than is judged is read, so that a longer input is seen to be longer.
-fn main() {
+fn main(rt: HostRuntime) -> ExitCode {
     let mut plan = [0u8; 65537];
-    let Input::Bytes(k) = program::read_file(b"plan.tsv", &mut plan) else {
-        return;
+    let Input::Bytes(k) = program::read_file(&rt, b"plan.tsv", &mut plan) else {
+        return ExitCode::FAILURE;
     };
     let mut src = [0u8; 65537];
-    let Input::Bytes(n) = program::read_input(b"the events on standard input", &mut src) else {
-        return;
+    let Input::Bytes(n) = program::read_input(&rt, b"the events on standard input", &mut src) else {
+        return ExitCode::FAILURE;
     };
     let mut out = [0u8; 655360];
     let w = desk::board_in(&plan[..k], &src[..n], &mut out);
-    program::print(&out[..w]);
+    program::status(program::print(&rt, &out[..w]))
 }

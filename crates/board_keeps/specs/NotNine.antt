@@ -50,9 +50,9 @@ free_other F b v n m =
     unless_other (F.has_task v n && F.has_mutex m) Unknown _ (λ e. omega arith)
     (unless_other (holds b v n m) NotHolder Clear (λ e. omega arith) clear_other)
 
-use-other : (F : Facts) (b : Board) (v t : ℕ) → OtherFault (use_fault F b v t)
+use_other : (F : Facts) (b : Board) (v t : ℕ) → OtherFault (use_fault F b v t)
 unfolding use_fault number_of
-use-other F b v t =
+use_other F b v t =
     unless_other (F.has_vcpu v) Unknown _ (λ e. omega arith)
     (unless_other (within t 1 max_ticks) Range _ (λ e. omega arith)
     (unless_other (not (is_asleep F b v)) Asleep _ (λ e. omega arith)
@@ -79,7 +79,7 @@ step_not_nine F b (Ask v n m) =
 step_not_nine F b (Free v n m) =
     answered_other b (free_fault F b v n m) (freed F b v m) (free_other F b v n m)
     (⊎_elim (λ h. rw h (λ e. let z : ◌≡◌ {A = ℕ} 0 1 = cc in omega arith)) (λ h. rw h (λ e. let z : ◌≡◌ {A = ℕ} 0 1 = cc in omega arith)) (bool_cases (F.global m)))
-step_not_nine F b (Use v t) = answered_other b (use_fault F b v t) (used F b v t) (use-other F b v t) (λ e. let z : ◌≡◌ {A = ℕ} 0 1 = cc in omega arith)
+step_not_nine F b (Use v t) = answered_other b (use_fault F b v t) (used F b v t) (use_other F b v t) (λ e. let z : ◌≡◌ {A = ℕ} 0 1 = cc in omega arith)
 step_not_nine F b (Top v) = answered_other b (top_fault F v) (topped F b v) (top_other F v) (λ e. let z : ◌≡◌ {A = ℕ} 0 1 = cc in omega arith)
 step_not_nine F b (Show v n) = answered_other b (show_fault F v n) (shown F b v n) (show_other F v n) (λ e. let z : ◌≡◌ {A = ℕ} 0 1 = cc in omega arith)
 

@@ -15,17 +15,20 @@ use plan::{Complaint, OverrunChoice, Policy, no_room};
 use plan_tables::PlanRecord;
 use program::Input;
 use read_answer::PlanAnswer;
+use std::io;
+use std::process::ExitCode;
 
 // Prints the last line of a run that ended.
-fn tell_end(h: u64, out: &mut [u8])
+fn tell_end(rt: &(impl Print + Eprint), h: u64, out: &mut [u8]) -> io::Result<()>
     requires { (h ≤ 1000000) × (length out.old ≡ 131072) }
 {
     let e = clock_lines::end_line(out, h);
-    program::print(&out[..e]);
+    program::print(rt, &out[..e])
 }
 
 // Tells the run to h, tick after tick, and how it ended.
 fn tell_run(
+    rt: &(impl Print + Eprint),
     policy: Policy,
     choice: OverrunChoice,
     view: &[u64],
@@ -39,24 +42,34 @@ fn tell_run(
     nexts: &mut [u64],
     h: u64,
     out: &mut [u8],
-)
+) -> io::Result<()>
     requires { Going policy choice view.now times.now left.old over.old stopped.old holder.old waits.old marks.old × Nexts times.now nexts.old 0 × Small (facts_in policy choice view.now) × (h ≤ 1000000) × (length out.old ≡ 131072) }
 {
     let mut t: u64 = 0;
     while t < h {
         let goes_on = clock_tells::tell_tick(
-            policy, choice, view, times, left, over, stopped, holder, waits, marks, nexts, t, out,
-        );
+            rt, policy, choice, view, times, left, over, stopped, holder, waits, marks, nexts, t,
+            out,
+        )?;
         if !goes_on {
-            return;
+            return Ok(());
         }
         t += 1;
     }
-    tell_end(h, out);
+    tell_end(rt, h, out)
 }
 
 // Tells the run to h of the plan in tables that passed the test for 9.
-fn tell_plan(r: PlanRecord, vt: &[u64], mt: &[u64], ot: &[u64], ts: &[u64], h: u64, out: &mut [u8])
+fn tell_plan(
+    rt: &(impl Print + Eprint),
+    r: PlanRecord,
+    vt: &[u64],
+    mt: &[u64],
+    ot: &[u64],
+    ts: &[u64],
+    h: u64,
+    out: &mut [u8],
+) -> io::Result<()>
     requires { (is_given r (lent vt.now mt.now ot.now ts.now) ≡ true) × (h ≤ 1000000) × (length out.old ≡ 131072) }
 {
     let mut view = [0u64; 4320];
@@ -87,6 +100,7 @@ fn tell_plan(r: PlanRecord, vt: &[u64], mt: &[u64], ot: &[u64], ts: &[u64], h: u
     let policy = r.policy;
     let choice = r.overrun;
     tell_run(
+        rt,
         policy,
         choice,
         &view,
@@ -100,11 +114,12 @@ fn tell_plan(r: PlanRecord, vt: &[u64], mt: &[u64], ot: &[u64], ts: &[u64], h: u
         &mut nexts,
         h,
         out,
-    );
+    )
 }
 
 // Tells the run to the horizon that src asks for, or why that line is refused.
 fn tell_asked(
+    rt: &(impl Print + Eprint),
     r: PlanRecord,
     vt: &[u64],
     mt: &[u64],
@@ -112,28 +127,29 @@ fn tell_asked(
     ts: &[u64],
     src: &[u8],
     out: &mut [u8],
-)
+) -> io::Result<()>
     requires { (is_given r (lent vt.now mt.now ot.now ts.now) ≡ true) × (length out.old ≡ 131072) }
 {
     match clock_horizons::horizon_from(src) {
-        HorizonAnswer::Until(h) => tell_plan(r, vt, mt, ot, ts, h, out),
+        HorizonAnswer::Until(h) => tell_plan(rt, r, vt, mt, ot, ts, h, out),
         HorizonAnswer::Refuse(k) => {
             let w = clock_lines::refused_alone(out, k);
-            program::print(&out[..w]);
+            program::print(rt, &out[..w])
         }
     }
 }
 
 // Prints the line of a refused plan.
-fn tell_refusal(c: Complaint, out: &mut [u8])
+fn tell_refusal(rt: &(impl Print + Eprint), c: Complaint, out: &mut [u8]) -> io::Result<()>
     requires { length out.old ≡ 131072 }
 {
     let w = listing_lines::refused_line(out, c);
-    program::print(&out[..w]);
+    program::print(rt, &out[..w])
 }
 
 // Tells the run of an accepted plan, or why a plan is refused.
 fn tell_or(
+    rt: &(impl Print + Eprint),
     a: PlanAnswer,
     vt: &[u64],
     mt: &[u64],
@@ -141,43 +157,42 @@ fn tell_or(
     ts: &[u64],
     src: &[u8],
     out: &mut [u8],
-)
+) -> io::Result<()>
     requires { Sure a (lent vt.now mt.now ot.now ts.now) × (length out.old ≡ 131072) }
 {
     match a {
-        PlanAnswer::Accepted(r) => tell_asked(r, vt, mt, ot, ts, src, out),
-        PlanAnswer::Refused(c) => tell_refusal(c, out),
+        PlanAnswer::Accepted(r) => tell_asked(rt, r, vt, mt, ot, ts, src, out),
+        PlanAnswer::Refused(c) => tell_refusal(rt, c, out),
     }
 }
 
 // Reads the plan, and tells what its line asks for.
-fn tell(plan: &[u8], src: &[u8]) {
+fn tell(rt: &(impl Print + Eprint), plan: &[u8], src: &[u8]) -> io::Result<()> {
     let mut out = [0u8; 131072];
     if desk_rooms::too_large(plan.len()) {
-        tell_refusal(no_room(), &mut out);
-        return;
+        return tell_refusal(rt, no_room(), &mut out);
     }
     if desk_rooms::too_large(src.len()) {
-        tell_refusal(no_room(), &mut out);
-        return;
+        return tell_refusal(rt, no_room(), &mut out);
     }
     let mut vt = [0u64; 80];
     let mut mt = [0u64; 64];
     let mut ot = [0u64; 256];
     let mut ts = [0u64; 1856];
     let a = records_read::read_rows(plan, &mut vt, &mut mt, &mut ot, &mut ts);
-    tell_or(a, &vt, &mt, &ot, &ts, src, &mut out);
+    tell_or(rt, a, &vt, &mt, &ot, &ts, src, &mut out)
 }
 
 // One byte more than is judged is read, so that a longer input is seen to be longer.
-fn main() {
+fn main(rt: HostRuntime) -> ExitCode {
     let mut plan = [0u8; 65537];
-    let Input::Bytes(k) = program::read_file(b"plan.tsv", &mut plan) else {
-        return;
+    let Input::Bytes(k) = program::read_file(&rt, b"plan.tsv", &mut plan) else {
+        return ExitCode::FAILURE;
     };
     let mut src = [0u8; 65537];
-    let Input::Bytes(n) = program::read_input(b"the horizon on standard input", &mut src) else {
-        return;
+    let Input::Bytes(n) = program::read_input(&rt, b"the horizon on standard input", &mut src)
+    else {
+        return ExitCode::FAILURE;
     };
-    tell(&plan[..k], &src[..n]);
+    program::status(tell(&rt, &plan[..k], &src[..n]))
 }

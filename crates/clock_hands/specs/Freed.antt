@@ -48,7 +48,7 @@ use Rattle.clock_steps.specs.Running.{Running}
 use Rattle.clock_lines.specs.Told.{told_at, told_to, RoomAt}
 use Rattle.clock_going.specs.Going.{timing_by, Going, Made}
 use Rattle.clock_uses.specs.Making.{no_fault, made_none, made_one, room_one}
-use Rattle.clock_uses.specs.Using.{AfterUse, put_supply_of, use-done}
+use Rattle.clock_uses.specs.Using.{AfterUse, put_supply_of, use_done}
 use Rattle.clock_hands.specs.Holding.{holds_in, holds_told}
 
 -- WHO IS NEXT, by the answer to a `free`
@@ -162,7 +162,7 @@ passed_cell t hs (To w y) k k' q h u z a c = handed_cell q.0 q.1 h u z a c
 pub freed_done : {o : OverrunChoice} {t ls os : List ℕ} {ss : List Bool} {hs : List ℕ} {v n : ℕ} {next : Next} {k k' : List ℕ} → InV v → InN n → NextIn next →
     PutFreed o t ls os ss hs v n next k k' → done_in k' ≡ done_in k
 freed_done {t = t} {hs = hs} {next = next} {k = k} {k' = k'} i j q h =
-    use-done h.supply
+    use_done h.supply
     ∙ done_kept k h.with_holding_law
     (λ u z a c.
     h.holding.else_same (at_done + seat u z) (λ e. omega arith)

@@ -27,9 +27,9 @@ use Rattle.clock_steps.specs.Supply.{use_supply}
 use Rattle.clock_steps.specs.Running.{Running, after_shaped}
 
 -- a `use v 1` that is in order is answered
-pub use-answered : (F : Facts) (b : Board) (v : ℕ) → F.has_vcpu v ≡ true → is_asleep F b v ≡ false → is_refusal (step F b (Use v 1)).answer ≡ false
+pub use_answered : (F : Facts) (b : Board) (v : ℕ) → F.has_vcpu v ≡ true → is_asleep F b v ≡ false → is_refusal (step F b (Use v 1)).answer ≡ false
 unfolding used
-use-answered F b v t a = ap (λ (o : Outcome). is_refusal o.answer) (use_is F b v 1 (use_taken F b v t a))
+use_answered F b v t a = ap (λ (o : Outcome). is_refusal o.answer) (use_is F b v 1 (use_taken F b v t a))
 
 -- a VCPU with budget is awake
 pub budget_awake : (F : Facts) (b : Board) (v : ℕ) → 0 < left_of b v → is_asleep F b v ≡ false
@@ -60,7 +60,7 @@ module _ {T : Timing} (p : Paced T) (c : ℕ) {b : Board} {d : List ℕ} (g : Ru
       let has = both_left (F.has_vcpu v) _ (both_left (is_on T c v) _ on) in
       let to : board_after F b (es ++ (Use v 1 ∷ [])) ≡ (step F b₁ (Use v 1)).board = board_append F b es (Use v 1 ∷ []) in
       record {
-        accepted = accepted_append F b es (Use v 1 ∷ []) h.accepted (use-answered F b₁ v has (budget_awake F b₁ v (omega arith)), tt);
+        accepted = accepted_append F b es (Use v 1 ∷ []) h.accepted (use_answered F b₁ v has (budget_awake F b₁ v (omega arith)), tt);
         locks = subst (SameLocks b) (sym to) (locks_then h.locks (use_locks F b₁ v 1));
         left_kept = λ w j l. ap (λ x. left_of x w) to ∙ use_left f b₁ v 1 w j (λ z. omega arith) ∙ h.left_kept w j (omega arith);
         supply_kept = λ w j q. ap (λ x. supply F x w) to ∙ use_supply f s t v 1 w j (λ z. clash (subst (λ x. idles T c b d x ≡ true) (sym z) e) q) ∙ h.supply_kept w j q;

@@ -36,7 +36,7 @@ use Rattle.clock_steps.specs.LockSteps.{InStepOn, free_in_step}
 use Rattle.clock_steps.specs.Done.{done_new, done_else}
 use Rattle.clock_steps.specs.Running.{Running, after_shaped, still_running}
 use Rattle.clock_steps.specs.AskTurn.{Worker, Working}
-use Rattle.clock_steps.specs.IdleTurn.{use-answered, idle_locks, idle_supply}
+use Rattle.clock_steps.specs.IdleTurn.{use_answered, idle_locks, idle_supply}
 
 -- AFTER THE IDLE USES the picked task may still be picked
 
@@ -151,7 +151,7 @@ module _ {T : Timing} (p : Paced T) (c : ℕ) {b : Board} {d : List ℕ} (g : Ru
       let y = is_ready_law T b d v n q.ready in
       let s = use_locks F b v 1 in
       let r = freed_well p (used_running v) v n q.v_in q.n_in y.task y.unfinished (same_wait v n s ∙ y.no_wait) (same_served T v n (done_of d v n) s k.served) (T.ends v n (done_of d v n + 1)) refl in
-      ((use-answered F b v (both_left (F.has_vcpu v) _ q.on_core) q.awake, r.0), r.1)
+      ((use_answered F b v (both_left (F.has_vcpu v) _ q.on_core) q.awake, r.0), r.1)
 
   -- there is still a number for each seat
   workdone_long : (x : Next) → length (work_done d x) ≡ max_v * most_n

@@ -10,9 +10,11 @@ ghost use Rattle.clock_going.specs.Going.{Going};
 ghost use Rattle.clock_ticks.specs.Ticks.{Over};
 
 use plan::{OverrunChoice, Policy};
+use std::io;
 
-// Tells tick t, and the last line where a job is missed; returns whether the run goes on, which it does not where a text cannot be written.
+// Tells tick t, and the last line where a job is missed; returns whether the run goes on, or the error of a text that cannot be written, which is told.
 pub fn tell_tick(
+    rt: &(impl Print + Eprint),
     policy: Policy,
     choice: OverrunChoice,
     view: &[u64],
@@ -26,10 +28,10 @@ pub fn tell_tick(
     nexts: &mut [u64],
     t: u64,
     out: &mut [u8],
-) -> bool
+) -> io::Result<bool>
     requires { Going policy choice view.now times.now left.old over.old stopped.old holder.old waits.old marks.old × Nexts times.now nexts.old t × Small (facts_in policy choice view.now) × (t ≤ 1000000) × (length out.old ≡ 131072) }
-    ensures over { (result ≡ true) → Over policy choice view.now times.now t (run_in left.old over.old stopped.old holder.old waits.old marks.old) left.new over.new stopped.new holder.new waits.new marks.new nexts.new }
-    ensures out_len { (result ≡ true) → length out.new ≡ 131072 }
+    ensures over { (result ≡ Ok true) → Over policy choice view.now times.now t (run_in left.old over.old stopped.old holder.old waits.old marks.old) left.new over.new stopped.new holder.new waits.new marks.new nexts.new }
+    ensures out_len { (result ≡ Ok true) → length out.new ≡ 131072 }
 {
     let k = clock_ticks::tick(
         true, policy, choice, view, times, left, over, stopped, holder, waits, marks, nexts, t, out,
@@ -37,13 +39,11 @@ pub fn tell_tick(
     let w = k.at;
     let v = k.v;
     let n = k.n;
-    if !program::write(&out[..w]) {
-        return false;
-    }
+    program::write(rt, &out[..w])?;
     if n != 0 {
         let e = clock_lines::missed_line(out, t, v, n);
-        program::print(&out[..e]);
-        return false;
+        program::print(rt, &out[..e])?;
+        return Ok(false);
     }
-    true
+    Ok(true)
 }

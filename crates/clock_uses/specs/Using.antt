@@ -70,8 +70,8 @@ put_supply_of h = record {
 }
 
 -- THE TICKS DONE stay
-pub use-done : {o : OverrunChoice} {ls os : List ℕ} {ss : List Bool} {k k' : List ℕ} {v : ℕ} → AfterUse o ls os ss k k' v → done_in k' ≡ done_in k
-use-done {o} {ls} {os} {ss} {k} {k'} {v} h = ⊎_elim (λ z. put_supply_done k k' (put_supply_of (h.put z))) (λ nz. ap done_in (h.kept nz)) (same_or_not (get_or ls (v - 1) 0) 0)
+pub use_done : {o : OverrunChoice} {ls os : List ℕ} {ss : List Bool} {k k' : List ℕ} {v : ℕ} → AfterUse o ls os ss k k' v → done_in k' ≡ done_in k
+use_done {o} {ls} {os} {ss} {k} {k'} {v} h = ⊎_elim (λ z. put_supply_done k k' (put_supply_of (h.put z))) (λ nz. ap done_in (h.kept nz)) (same_or_not (get_or ls (v - 1) 0) 0)
 
 -- WHAT IS KEPT
 module _ {T : Timing} {x : List ℕ} {b : Board} {k : List ℕ} (m : Mirrors T x b k) (f : Fair T.facts) (s : Shaped b) (g : good T.facts b ≡ true) where
@@ -158,7 +158,7 @@ module _ {p : Policy} {o : OverrunChoice} {t x ls os : List ℕ} {ss : List Bool
         paired = g.paired;
         ordered = g.ordered;
         paced = g.paced;
-        running = subst (λ d. Running T (board_of ls' os' ss' hs ws) d) (sym (use-done h))
+        running = subst (λ d. Running T (board_of ls' os' ss' hs ws) d) (sym (use_done h))
             (subst (λ c. Running T c (done_in k)) (sym e) (still_running g.paced r (Use v 1 ∷ []) (same_in_step (use_locks F b v 1) r.in_step)));
         mirrors = subst (λ c. Mirrors T x c k') (sym e) (use_kept g.mirrors g.paced.fair r.shaped r.is_good v (subst (λ c. AfterUseOn o c k k' v) e h));
       }
@@ -175,7 +175,7 @@ module _ {p : Policy} {o : OverrunChoice} {t x ls os : List ℕ} {ss : List Bool
         × (Made (facts_in p o t) on i (run_in ls os ss hs ws k) (run_in ls' os' ss' hs ws k') (Use v 1 ∷ []) a at b w × (done_in k' ≡ done_in k))
     use_result {k'} u q z = (
       use_going v (ap (λ (r : Outcome). r.board) e) u,
-      (made_one (facts_in p o t) on i (run_in ls os ss hs ws k) (run_in ls' os' ss' hs ws k') (Use v 1) e refl z q, use-done u),
+      (made_one (facts_in p o t) on i (run_in ls os ss hs ws k) (run_in ls' os' ss' hs ws k') (Use v 1) e refl z q, use_done u),
     )
 
     -- where more than one tick was left of the budget nothing is to be written

@@ -1,4 +1,4 @@
-// The library's functions for C, on byte slices. Each result is one number: the bytes written, or how a run ends, or the refusal's number, negated.
+// The library's functions for C, on byte slices, which `exports_c` exports. Each result is one number: the bytes written, or how a run ends, or the refusal's number, negated.
 #![tactic(auto)]
 
 ghost use Rattle.std.specs.Prelude.{◌≡◌};
@@ -12,8 +12,7 @@ use clock_rules::RunAnswer;
 use plan::Refusal;
 
 // What `verdict` prints for any input, into a lent buffer; with too little room -8, and the buffer as it was lent.
-#[unsafe(no_mangle)]
-pub extern "C" fn ryefrost_verdict(input: &[u8], out: &mut [u8]) -> i64
+pub fn ryefrost_verdict(input: &[u8], out: &mut [u8]) -> i64
     ensures value { result ≡ exported (text_answer (verdict_text input.now) out.old) }
     ensures out_after { out.new ≡ text_after (verdict_text input.now) out.old }
 {
@@ -22,8 +21,7 @@ pub extern "C" fn ryefrost_verdict(input: &[u8], out: &mut [u8]) -> i64
 }
 
 // What `board` prints for any two inputs, into a lent buffer; with too little room -8, and the buffer as it was lent.
-#[unsafe(no_mangle)]
-pub extern "C" fn ryefrost_board(plan: &[u8], events: &[u8], out: &mut [u8]) -> i64
+pub fn ryefrost_board(plan: &[u8], events: &[u8], out: &mut [u8]) -> i64
     ensures value { result ≡ exported (text_answer (board_text plan.now events.now) out.old) }
     ensures out_after { out.new ≡ text_after (board_text plan.now events.now) out.old }
 {
@@ -32,8 +30,7 @@ pub extern "C" fn ryefrost_board(plan: &[u8], events: &[u8], out: &mut [u8]) -> 
 }
 
 // How the run of any plan to a horizon ends: 0 before the horizon, 1 at a missed job, whose tick, v and n are left in the first three places; with fewer places -8.
-#[unsafe(no_mangle)]
-pub extern "C" fn ryefrost_run(plan: &[u8], horizon: u64, missed: &mut [u64]) -> i64
+pub fn ryefrost_run(plan: &[u8], horizon: u64, missed: &mut [u64]) -> i64
     ensures value { result ≡ run_exported (run_into plan.now horizon missed.old) }
     ensures missed_after { missed.new ≡ missed_left (run_into plan.now horizon missed.old) missed.old }
 {

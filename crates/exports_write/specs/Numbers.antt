@@ -87,14 +87,14 @@ six (a ∷ b ∷ c ∷ d ∷ e ∷ []) h = absurd (omega (arith, h))
 six (a ∷ b ∷ c ∷ d ∷ e ∷ f ∷ []) h = refl
 six (a ∷ b ∷ c ∷ d ∷ e ∷ f ∷ g ∷ ns) h = absurd (omega (arith, h))
 
-pub record-back : (r : PlanRecord) → record_from (numbers_of r) ≡ r
+pub record_back : (r : PlanRecord) → record_from (numbers_of r) ≡ r
 unfolding record_from
-record-back r =
+record_back r =
     λ i. record { policy = (policy_back r.policy).0 i; overrun = (overrun_back r.overrun).0 i; vcpus = r.vcpus; mutexes = r.mutexes; opens = r.opens; tasks = r.tasks }
 
-pub record-exactly : (ns : List ℕ) → (is_record ns ≡ true) ↔ ((r : PlanRecord) × (ns ≡ numbers_of r))
+pub record_exactly : (ns : List ℕ) → (is_record ns ≡ true) ↔ ((r : PlanRecord) × (ns ≡ numbers_of r))
 unfolding is_record record_from
-record-exactly ns = (
+record_exactly ns = (
   λ h.
       let l = both_right (eqb (length ns) 6) _ h in
       let p = policy_number_law (get_or ns 0 0) (leb-true (get_or ns 0 0) 1 (both_left (leb (get_or ns 0 0) 1) _ l)) in
@@ -109,8 +109,8 @@ record-exactly ns = (
 pub numbers_same : (r : PlanRecord) (t : Tables) (o : List ℕ) → (numbers_asked (numbers_of r) t o ≡ plan_asked r t o) × (numbers_left (numbers_of r) t o ≡ plan_left r t o)
 unfolding numbers_asked numbers_left
 numbers_same r t o =
-    let e = (record-exactly (numbers_of r)).1 (r, refl) in
-    let f = record-back r in (
+    let e = (record_exactly (numbers_of r)).1 (r, refl) in
+    let f = record_back r in (
       ap (λ (b : Bool). if b then plan_asked (record_from (numbers_of r)) t o else Refused Foreign) e ∙ ap (λ x. plan_asked x t o) f,
       ap (λ (b : Bool). if b then plan_left (record_from (numbers_of r)) t o else o) e ∙ ap (λ x. plan_left x t o) f,
     )
@@ -124,16 +124,16 @@ pub overrun_some : (n : ℕ) → (n ≡ 0 → ⊥) → WithOverrun ≡ overrun_f
 overrun_some zero h = absurd (h refl)
 overrun_some (suc n) h = refl
 
-pub record-told : (ns : List ℕ) {a b : ℕ} → a ≡ get_or ns 0 0 → b ≡ get_or ns 1 0 → (eqb (length ns) 6 && (leb a 1 && leb b 1)) ≡ is_record ns
+pub record_told : (ns : List ℕ) {a b : ℕ} → a ≡ get_or ns 0 0 → b ≡ get_or ns 1 0 → (eqb (length ns) 6 && (leb a 1 && leb b 1)) ≡ is_record ns
 unfolding is_record
-record-told ns e f = rw (e, f)
+record_told ns e f = rw (e, f)
 
-pub record-made :
+pub record_made :
     (ns : List ℕ) {a b v m o k : ℕ} {p : Policy} {c : OverrunChoice} → a ≡ get_or ns 0 0 → p ≡ policy_from a → b ≡ get_or ns 1 0 → c ≡ overrun_from b →
     v ≡ get_or ns 2 0 → m ≡ get_or ns 3 0 → o ≡ get_or ns 4 0 → k ≡ get_or ns 5 0 →
     record { policy = p; overrun = c; vcpus = v; mutexes = m; opens = o; tasks = k } ≡ record_from ns
 unfolding record_from
-record-made ns ea ep eb ec ev em eo ek = rw (ep, ea, ec, eb, ev, em, eo, ek)
+record_made ns ea ep eb ec ev em eo ek = rw (ep, ea, ec, eb, ev, em, eo, ek)
 
 module _ (ns : List ℕ) (t : Tables) (o : List ℕ) {b : Bool} (e : b ≡ is_record ns) where
   pub numbers_none : b ≡ false → (Refused Foreign ≡ numbers_asked ns t o) × (o ≡ numbers_left ns t o)

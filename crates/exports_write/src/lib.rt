@@ -1,4 +1,4 @@
-// The library's function for C that writes a plan, in an archive of its own: a plan's bytes from tables whose record is six numbers. The numbers are those of specs/Numbers.
+// The library's function for C that writes a plan, which `exports_write_c` exports in an archive of its own: a plan's bytes from tables whose record is six numbers. The numbers are those of specs/Numbers.
 #![tactic(auto)]
 
 ghost use Rattle.std.specs.Prelude.{◌≡◌};
@@ -79,8 +79,7 @@ fn write_numbers(
 }
 
 // The bytes of the plan in lent tables, into a lent buffer: with tables or a record that no accepted plan gives -9, then with too little room -8, and the buffer as it was lent.
-#[unsafe(no_mangle)]
-pub extern "C" fn ryefrost_write(
+pub fn ryefrost_write(
     numbers: &[u64],
     vcpus: &[u64],
     mutexes: &[u64],

@@ -3,10 +3,8 @@ use Rattle.std.specs.Prelude.{ℕ, ◌+◌, ◌-◌, ◌≤◌, ◌<◌, ◌≡�
 use Rattle.std.proofs.Common.{zero-le, arith, sym, ap, subst, ◌∙◌, true≢false, length-take, length-drop, length-take-le, SFits, to_z, of_z, to_z-of_z, ltb-true}
 use Rattle.std.specs.Int.Signed.{lt_z}
 use Rattle.std.specs.Int.{w64}
-use Rattle.libc.specs.Io.{Moved}
-use Rattle.io.specs.Counts.{IsPrefixLen}
 use Rattle.program_ends.specs.Ends.{more_bytes}
-use Rattle.program.specs.Told.{Input, Bytes, Unread, input_after, Handed}
+use Rattle.program.specs.Told.{Input, Bytes, Unread, input_after, Handed, Moved, Counts}
 
 pub after_below : (n : ℕ) (z : ℤ) → lt_z z (pos 0) ≡ true → Unread ≡ input_after z n
 after_below n (pos k) e = absurd (let l : k < 0 = ltb-true k 0 e in omega arith)
@@ -16,7 +14,7 @@ pub after_others : (n : ℕ) (z : ℤ) → lt_z z (pos 0) ≡ false → Bytes n 
 after_others n (pos k) e = refl
 after_others n (negsuc k) e = absurd (true≢false e)
 
-pub counted : (n : ℕ) (xs : List ℕ) → n ≤ length xs → IsPrefixLen n xs
+pub counted : (n : ℕ) (xs : List ℕ) → n ≤ length xs → Counts n xs
 counted n xs h = (h, sym (length-take-le n xs h))
 
 more_moved : (n : ℕ) (z : ℤ) → Moved n z → more_bytes z ≤ n
@@ -37,5 +35,5 @@ handed_after n xs (pos k) h = counted n xs h
 handed_after n xs (negsuc k) h = tt
 
 -- an input of n bytes hands on the first n of its buffer
-pub handed_bytes : (n : ℕ) (xs : List ℕ) {i : Input} → i ≡ Bytes n → Handed i xs → IsPrefixLen n xs
+pub handed_bytes : (n : ℕ) (xs : List ℕ) {i : Input} → i ≡ Bytes n → Handed i xs → Counts n xs
 handed_bytes n xs e h = subst (λ x. Handed x xs) e h

@@ -4,6 +4,11 @@
 ghost use Rattle.std.specs.Prelude.{◌≡◌};
 ghost use Rattle.program_ends.specs.Ends.{more_bytes, is_absent, is_closed};
 
+// Linux's numbers of the two errors.
+const ENOENT: i32 = 2;
+
+const EPIPE: i32 = 32;
+
 // The bytes that a read has put, by its answer.
 pub fn more(answer: isize) -> usize
     ensures { result ≡ more_bytes answer }
@@ -15,12 +20,12 @@ pub fn more(answer: isize) -> usize
 pub fn is_absent(error: i32) -> bool
     ensures { result ≡ is_absent error }
 {
-    error == libc::ENOENT
+    error == ENOENT
 }
 
 // Whether an output cannot be written because its reader has closed it.
 pub fn is_closed(error: i32) -> bool
     ensures { result ≡ is_closed error }
 {
-    error == libc::EPIPE
+    error == EPIPE
 }

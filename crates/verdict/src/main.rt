@@ -2,14 +2,15 @@
 #![tactic(auto)]
 
 use program::Input;
+use std::process::ExitCode;
 
 // One byte more than is judged is read, so that a longer input is seen to be longer.
-fn main() {
+fn main(rt: HostRuntime) -> ExitCode {
     let mut src = [0u8; 65537];
-    let Input::Bytes(n) = program::read_input(b"the plan on standard input", &mut src) else {
-        return;
+    let Input::Bytes(n) = program::read_input(&rt, b"the plan on standard input", &mut src) else {
+        return ExitCode::FAILURE;
     };
     let mut out = [0u8; 16803];
     let w = desk::verdict_in(&src[..n], &mut out);
-    program::print(&out[..w]);
+    program::status(program::print(&rt, &out[..w]))
 }

@@ -17,4 +17,4 @@ pub plan_told-size-requires : goal.plan_told-size-requires
 plan_told-size-requires c = (c.requires, λ e. absurd (false≢true e))
 
 pub returns : goal.returns
-returns c = room_counted c.plan_told-size.ensures refl
+returns c = let h = room_counted c.plan_told-size.ensures refl in record { value = h.0; out_unchanged = h.1 }

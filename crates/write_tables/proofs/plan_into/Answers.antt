@@ -11,19 +11,17 @@ pub returns-then-not-fits : goal.returns-then-not-fits
 returns-then-not-fits c =
     let a = c.args in
     let x = text (plan_in a.r (lent a.vt.now a.mt.now a.ot.now a.ts.now)) in
-    let f = c.fits2.ensures in
-    none_told x f.0 f.1 (ap not c.if-not-fits.true)
+    let f = c.fits.ensures in let h = none_told x f.value f.out_unchanged (ap not c.if-not-fits.true) in record { value = h.0; out_after = h.1 }
 
 pub plan_told-n-requires : goal.plan_told-n-requires
 plan_told-n-requires c =
     let a = c.args in
     let x = text (plan_in a.r (lent a.vt.now a.mt.now a.ot.now a.ts.now)) in
-    let f = c.fits2.ensures in
-    (c.requires, λ e. room_told x f.0 f.1 (ap not c.if-not-fits.false))
+    let f = c.fits.ensures in
+    (c.requires, λ e. room_told x f.value f.out_unchanged (ap not c.if-not-fits.false))
 
 pub returns : goal.returns
 returns c =
     let a = c.args in
     let x = text (plan_in a.r (lent a.vt.now a.mt.now a.ot.now a.ts.now)) in
-    let f = c.fits2.ensures in
-    whole_told x f.0 f.1 (ap not c.if-not-fits.false) c.plan_told-n.ensures
+    let f = c.fits.ensures in let h = whole_told x f.value f.out_unchanged (ap not c.if-not-fits.false) c.plan_told-n.ensures in record { value = h.0; out_after = h.1 }
