@@ -1,2 +1,9 @@
 pub mod NextLaws
 pub mod MarkLaws
+pub mod Keeps
+pub mod HandOn
+pub mod Runs
+pub mod Printed
+pub mod Tested
+pub mod NotNine
+pub mod LedgerLaws

@@ -19,7 +19,7 @@ use Rattle.plan.specs.Plan.{Vcpu, Owner, Global, Local, Mutex, Open, Task, Plan,
 use Rattle.plan.specs.Lookup.{is_global, is_local_to, has_vcpu, has_mutex, global, local_to}
 use Rattle.plan.specs.Valid.{VcpuValid, MutexValid, LockValid, TaskValid, Valid}
 use Rattle.plan.specs.ListLaws.{any_weaker, chain_rest, rising_above}
-use Rattle.plan.specs.LookupLaws.{declared_exactly, mutex_exactly, global_exactly, local_exactly, of_declared, reach_declared}
+use Rattle.plan.proofs.LookupLaws.{declared_exactly, mutex_exactly, global_exactly, local_exactly, of_declared, reach_declared}
 use Rattle.figures.specs.System.{system}
 use Rattle.figures.specs.Figures.{vcpu_at, no_vcpu, longest_global, ght, overrun_by, overrun_of, locks_it, ceiling}
 use Rattle.board_rules.specs.Facts.{facts_of}

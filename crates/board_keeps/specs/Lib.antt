@@ -7,15 +7,8 @@ pub mod Nexts
 pub mod Faults
 pub mod Marks
 pub mod Moves
-pub mod Keeps
 pub mod Leaves
-pub mod Runs
-pub mod Tested
-pub mod HandOn
 pub mod Ledger
-pub mod LedgerLaws
 pub mod Locality
 pub mod FairLaws
-pub mod NotNine
-pub mod Printed
 pub mod Lacking

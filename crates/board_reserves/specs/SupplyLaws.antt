@@ -15,7 +15,7 @@ use Rattle.plan.specs.declared.OverrunChoice.TheVariants.{WithOverrun, WithoutOv
 use Rattle.plan.specs.declared.Refusal.{Refusal}
 use Rattle.plan.specs.declared.Fault.{Fault}
 use Rattle.plan.specs.declared.Fault.TheVariants.{Clear, Bad}
-use Rattle.plan.specs.RuleLaws.{in_range_law}
+use Rattle.plan.proofs.RuleLaws.{in_range_law}
 use Rattle.board_seats.specs.Seats.{is_v, is_n, is_m, has_vcpu, has_task, has_mutex, task_at, owner_at}
 use Rattle.board_seats.specs.SeatLaws.{Ranges, ranges}
 use Rattle.board_walks.specs.Walks.{holds_global}

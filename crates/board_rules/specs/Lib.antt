@@ -7,7 +7,4 @@ pub mod Change
 pub mod LocalNext
 pub mod Settle
 pub mod SettleEvents
-pub mod Marked
-pub mod CompleteLaws
 pub mod Lent
-pub mod LentLaws

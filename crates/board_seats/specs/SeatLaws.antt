@@ -4,7 +4,7 @@ use Rattle.std.proofs.Common.{sym, ap, ◌∙◌, arith, ne_eqb}
 use Rattle.std.proofs.Math.ListN.{get_or-eq_default}
 use Rattle.laws.specs.Choice.{when}
 use Rattle.laws.specs.BoolLaws.{both_left, both_right}
-use Rattle.plan.specs.RuleLaws.{in_range_law}
+use Rattle.plan.proofs.RuleLaws.{in_range_law}
 use Rattle.board_seats.specs.Seats.{is_v, is_n, is_local, wait_at, local_waiter}
 
 -- a look-up in range, and out of range: t is the test's flag

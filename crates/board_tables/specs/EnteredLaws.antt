@@ -8,7 +8,7 @@ use Rattle.plan.specs.declared.Refusal.TheVariants.{Foreign}
 use Rattle.plan_tables.specs.declared.PlanRecord.{PlanRecord}
 use Rattle.plan_tables.specs.Layout.{Tables}
 use Rattle.plan_tables.specs.Given.{plan_in, is_given, if_given}
-use Rattle.plan_tables.specs.GivenLaws.{given_plan}
+use Rattle.plan_tables.proofs.GivenLaws.{given_plan}
 use Rattle.board_rules.specs.Facts.{Facts}
 use Rattle.board_rules.specs.declared.Board.{Board}
 use Rattle.board_rules.specs.declared.Event.{Event}
@@ -20,10 +20,10 @@ use Rattle.board_keeps.specs.Fair.{Fair}
 use Rattle.board_keeps.specs.FairLaws.{fair}
 use Rattle.board_keeps.specs.Shaped.{Shaped}
 use Rattle.board_keeps.specs.Leaves.{Leaves, step_leaves}
-use Rattle.board_keeps.specs.Keeps.{step_keeps}
-use Rattle.board_keeps.specs.Runs as runs
-use Rattle.board_keeps.specs.NotNine.{step_not_nine, answers_not_nine, NotNine}
-use Rattle.board_keeps.specs.Tested.{fresh_run}
+use Rattle.board_keeps.proofs.Keeps.{step_keeps}
+use Rattle.board_keeps.proofs.Runs as runs
+use Rattle.board_keeps.proofs.NotNine.{step_not_nine, answers_not_nine, NotNine}
+use Rattle.board_keeps.proofs.Tested.{fresh_run}
 use Rattle.board_tables.specs.Entered.{Made, NoBoard, facts_from, no_board, fresh_for, step_for, run_for}
 
 -- a board that fails its test for 9

@@ -24,8 +24,8 @@ use Rattle.board_rules.specs.View.{at_lists, view_length, is_v, is_n, is_m}
 use Rattle.board_keeps.specs.Fair.{InV, InN, InM}
 use Rattle.board_viewcells.specs.ViewOf.{bit, view_of}
 use Rattle.board_views.specs.Sheets.{place_of, Marked, Blank, blank_at, in_turn, marked, marked_by}
-use Rattle.board_viewcells.specs.ViewLaws.{name_in, in_name, view_length_law}
-use Rattle.board_viewcells.specs.FillLaws.{Written, sheet_place}
+use Rattle.board_viewcells.proofs.ViewLaws.{name_in, in_name, view_length_law}
+use Rattle.board_viewcells.proofs.FillLaws.{Written, sheet_place}
 
 -- ROWS IN TURN
 turn_append : {A B : Type 0} (f : A → B → B) (xs ys : List A) (w : B) → in_turn f (xs ++ ys) w ≡ in_turn f ys (in_turn f xs w)

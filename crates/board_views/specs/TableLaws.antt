@@ -6,16 +6,16 @@ use Rattle.plan.specs.Plan.{Plan, tasks_of}
 use Rattle.plan.specs.Valid.{Valid}
 use Rattle.plan_tables.specs.declared.PlanRecord.{PlanRecord}
 use Rattle.plan_tables.specs.Layout.{Tables, vcpu_row, mutex_row, task_row, record_of}
-use Rattle.plan_tables.specs.LayoutLaws.{vcpus_back, mutexes_back, tasks_back}
+use Rattle.plan_tables.proofs.LayoutLaws.{vcpus_back, mutexes_back, tasks_back}
 use Rattle.plan_tables.specs.FlatLaws.{held_back}
 use Rattle.plan_tables.specs.Given.{Gives, plan_in, is_given}
-use Rattle.plan_tables.specs.GivenLaws.{Kept, gives_kept, valid_few, valid_named, given_plan}
+use Rattle.plan_tables.proofs.GivenLaws.{Kept, gives_kept, valid_few, valid_named, given_plan}
 use Rattle.figures.specs.System.{system}
 use Rattle.figures.specs.Tabled.{system_in}
 use Rattle.board_rules.specs.Facts.{facts_of}
 use Rattle.board_rules.specs.View.{view_length, facts_in}
 use Rattle.board_viewcells.specs.ViewOf.{view_of}
-use Rattle.board_viewcells.specs.FillLaws.{filled_facts}
+use Rattle.board_viewcells.proofs.FillLaws.{filled_facts}
 
 pub system_given : {p : Plan} {r : PlanRecord} {t : Tables} → Valid p → Gives p r t → system_in r t.vcpus t.mutexes t.tasks ≡ system p
 unfolding system_in record_of

@@ -14,9 +14,9 @@ use Rattle.board_rules.specs.Board.{left_of, over_of, step, good}
 use Rattle.board_events.specs.Events.{board_after}
 use Rattle.board_keeps.specs.Shaped.{Shaped}
 use Rattle.board_keeps.specs.Ledger.{ledger}
-use Rattle.board_keeps.specs.LedgerLaws.{ledger_balance}
+use Rattle.board_keeps.proofs.LedgerLaws.{ledger_balance}
 use Rattle.board_keeps.specs.Locality.{Untouched, untouched, ask_local, free_local, ask_elsewhere, free_elsewhere}
-use Rattle.board_keeps.specs.Runs.{step_on_law}
+use Rattle.board_keeps.proofs.Runs.{step_on_law}
 use Rattle.board_tables.specs.declared.FreshAnswer.TheVariants.{Made}
 use Rattle.board_tables.specs.Entered.{facts_from, fresh_for, step_for, run_for, last_for}
 use Rattle.board_tables.specs.EnteredLaws.{step_other, step_given, fair_from, fresh_of, tested_other, run_made, run_answers}

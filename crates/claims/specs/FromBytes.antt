@@ -12,12 +12,12 @@ use Rattle.plan.specs.Plan.{Vcpu, Task, Plan, tasks_of}
 use Rattle.plan.specs.Declares.{GlobalMutex}
 use Rattle.plan.specs.Valid.{Valid}
 use Rattle.plan.specs.Lookup.{has_vcpu}
-use Rattle.plan.specs.LookupLaws.{declared_exactly}
+use Rattle.plan.proofs.LookupLaws.{declared_exactly}
 use Rattle.plan.specs.Reading.{Accepts, reading}
 use Rattle.plan_tables.specs.declared.PlanRecord.{PlanRecord}
 use Rattle.plan_tables.specs.Layout.{Tables}
 use Rattle.plan_tables.specs.Given.{Gives, if_given}
-use Rattle.plan_tables.specs.GivenLaws.{plan_given, given_exactly}
+use Rattle.plan_tables.proofs.GivenLaws.{plan_given, given_exactly}
 use Rattle.read_answer.specs.declared.PlanAnswer.TheVariants.{Accepted}
 use Rattle.read_answer.specs.Into.{plan_answer, tables_after}
 use Rattle.read_answer.specs.Claims.{accepted_gives}
@@ -28,7 +28,7 @@ use Rattle.records_read.specs.ReadLaws.{sheets_left}
 use Rattle.figures.specs.System.{system}
 use Rattle.figures.specs.Figures.{response}
 use Rattle.figures.specs.Named.{has_task, task_at, lock_at, has_section, Placed}
-use Rattle.figures.specs.NamedLaws.{vcpu_named, task_named, lock_named, has_task_exactly, section_exactly}
+use Rattle.figures.proofs.NamedLaws.{vcpu_named, task_named, lock_named, has_task_exactly, section_exactly}
 use Rattle.figures.specs.Answers.{vcpu_answer, wait_answer, task_answer}
 use Rattle.answers_tasks.specs.declared.RowAnswer.TheVariants.{Row, NoRow}
 use Rattle.answers_tasks.specs.declared.TaskRowAnswer.TheVariants.{TaskRow, NoTaskRow}

@@ -35,25 +35,25 @@ use Rattle.board_tables.specs.Entered.{fresh_for, step_for}
 use Rattle.desk_runs.specs.Ran.{run_into}
 use Rattle.exports_codes.specs.Exported.{exported, run_exported, missed_left}
 use Rattle.exports_write.specs.Numbers.{numbers_asked, numbers_left}
-use Rattle.text_scan.proofs as text_scan
-use Rattle.given_test.proofs as given_test
-use Rattle.read_lines.proofs as read_lines
-use Rattle.read_plan.proofs as read_plan
-use Rattle.records_read.proofs as records_read
-use Rattle.answers_tasks.proofs as answers_tasks
-use Rattle.answers_rows.proofs as answers_rows
-use Rattle.listing_write.proofs as listing_write
-use Rattle.write_tables.proofs as write_tables
-use Rattle.records_ask.proofs as records_ask
-use Rattle.records_board.proofs as records_board
-use Rattle.board_tables.proofs as board_tables
-use Rattle.log_answers.proofs as log_answers
-use Rattle.clock_tables.proofs as clock_tables
-use Rattle.desk.proofs as desk
-use Rattle.desk_clock.proofs as desk_clock
-use Rattle.desk_write.proofs as desk_write
-use Rattle.exports.proofs as exports
-use Rattle.exports_write.proofs as exports_write
+use Rattle.text_scan.specs.contracts as text_scan
+use Rattle.given_test.specs.contracts as given_test
+use Rattle.read_lines.specs.contracts as read_lines
+use Rattle.read_plan.specs.contracts as read_plan
+use Rattle.records_read.specs.contracts as records_read
+use Rattle.answers_tasks.specs.contracts as answers_tasks
+use Rattle.answers_rows.specs.contracts as answers_rows
+use Rattle.listing_write.specs.contracts as listing_write
+use Rattle.write_tables.specs.contracts as write_tables
+use Rattle.records_ask.specs.contracts as records_ask
+use Rattle.records_board.specs.contracts as records_board
+use Rattle.board_tables.specs.contracts as board_tables
+use Rattle.log_answers.specs.contracts as log_answers
+use Rattle.clock_tables.specs.contracts as clock_tables
+use Rattle.desk.specs.contracts as desk
+use Rattle.desk_clock.specs.contracts as desk_clock
+use Rattle.desk_write.specs.contracts as desk_write
+use Rattle.exports.specs.contracts as exports
+use Rattle.exports_write.specs.contracts as exports_write
 
 module _ {M : Type 1} {𝓤 : Ura M} (𝓛 : Logic 𝓤) (mem : Memory → SProp 𝓤) (run : Routine → Fun 𝓤) where
   -- READING INTO RECORDS

@@ -12,18 +12,18 @@ use Rattle.search.specs.declared.Answer.TheVariants.{Fits, Late}
 use Rattle.plan.specs.Limits.{max_v, max_n, max_input}
 use Rattle.plan.specs.Line.{w_one}
 use Rattle.plan.specs.Plan.{Vcpu, Task, Plan, tasks_of}
-use Rattle.plan.specs.LookupLaws.{global_exactly}
+use Rattle.plan.proofs.LookupLaws.{global_exactly}
 use Rattle.plan.specs.Valid.{In, Valid}
 use Rattle.plan.specs.Reading.{Accepts, reading}
-use Rattle.plan.specs.Accepted.{read_text_law}
-use Rattle.plan_tables.specs.GivenLaws.{tasks_valid}
+use Rattle.plan.proofs.Accepted.{read_text_law}
+use Rattle.plan_tables.proofs.GivenLaws.{tasks_valid}
 use Rattle.figures.specs.System.{System, system}
 use Rattle.figures.specs.Figures.{task_demand}
 use Rattle.figures.specs.declared.TaskAnswer.{TaskAnswer}
 use Rattle.figures.specs.declared.TaskAnswer.TheVariants.{Searched, NoWait, Held}
 use Rattle.figures.specs.Answers.{vcpu_answer, wait_answer, task_answer, is_fits, task_fits, all_fit, remote_waits}
 use Rattle.listing.specs.Listing.{w_verdict, line, vcpu_line, wait_line, wait_lines, task_line, task_lines, rising, all_line, listing, read_text, verdict_text}
-use Rattle.listing.specs.ListingLaws.{Ended, ended_append, ended_flat, line_ended, vcpu_line_ended, wait_lines_ended, task_lines_ended, Stands, stands_self, stands_left, stands_right, stands_flat, rising_rises, rising_only, in_rising, placed_stands}
+use Rattle.listing.proofs.ListingLaws.{Ended, ended_append, ended_flat, line_ended, vcpu_line_ended, wait_lines_ended, task_lines_ended, Stands, stands_self, stands_left, stands_right, stands_flat, rising_rises, rising_only, in_rising, placed_stands}
 use Rattle.claims.specs.Reported.{Reports, NoNumber, HeldUp, TaskReported, HasNumber, RowsPrinted}
 use Rattle.claims.specs.Reports.{vcpu_answer_reports, wait_answer_reports, task_answer_reports}
 

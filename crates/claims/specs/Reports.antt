@@ -12,21 +12,21 @@ use Rattle.laws.specs.SumLaws.{any_exactly, has_any, each_map, members, sum_rise
 use Rattle.search.specs.declared.Answer.{Answer}
 use Rattle.search.specs.declared.Answer.TheVariants.{Fits, Late}
 use Rattle.search.specs.Search.{window, solve}
-use Rattle.search.specs.SearchLaws.{Answered, solve_answers}
+use Rattle.search.proofs.SearchLaws.{Answered, solve_answers}
 use Rattle.plan.specs.declared.Refusal.{Refusal}
 use Rattle.plan.specs.declared.Refusal.TheVariants.{Foreign, Unknown}
 use Rattle.plan.specs.declared.Lock.{Lock}
 use Rattle.plan.specs.Plan.{Vcpu, Task}
 use Rattle.plan.specs.Declares.{GlobalMutex}
 use Rattle.plan.specs.Lookup.{has_vcpu}
-use Rattle.plan.specs.LookupLaws.{global_exactly}
+use Rattle.plan.proofs.LookupLaws.{global_exactly}
 use Rattle.plan_tables.specs.declared.PlanRecord.{PlanRecord}
 use Rattle.plan_tables.specs.Layout.{Tables}
 use Rattle.plan_tables.specs.Given.{is_given}
 use Rattle.figures.specs.System.{System}
 use Rattle.figures.specs.Figures.{vcpu_at, higher_task, lengths, task_demand, response, is_section}
 use Rattle.figures.specs.Named.{has_task, task_at, lock_at, has_section}
-use Rattle.figures.specs.Demands.{vcpu_demand_law, wait_demand_law, task_demand_law}
+use Rattle.figures.proofs.Demands.{vcpu_demand_law, wait_demand_law, task_demand_law}
 use Rattle.figures.specs.declared.TaskAnswer.{TaskAnswer}
 use Rattle.figures.specs.declared.TaskAnswer.TheVariants.{Searched, NoWait, Held}
 use Rattle.figures.specs.Answers.{vcpu_answer, wait_answer, task_answer, ticks_of, is_late, remote_waits, lacks_wait, is_held}

@@ -9,7 +9,7 @@ use Rattle.listing_lines.specs.declared.TextAnswer.TheVariants.{Written}
 use Rattle.listing_lines.specs.Into.{text_answer, text_after}
 use Rattle.listing_asked.specs.Asked.{text_asked, text_left}
 use Rattle.write_asked.specs.Asked.{plan_asked, plan_left}
-use Rattle.write_asked.specs.Back.{read_written, written_back}
+use Rattle.write_asked.proofs.Back.{read_written, written_back}
 use Rattle.records.specs.declared.Task.{Task}
 use Rattle.records.specs.Sheet.{tables_of}
 use Rattle.records_read.specs.After.{sheets_after}

@@ -21,7 +21,7 @@ use Rattle.board_keeps.specs.Fair.{Fair, InV, InN, InM, task_v, sheet_v, sheet_n
 use Rattle.board_keeps.specs.Shaped.{Shaped, step_shaped}
 use Rattle.board_keeps.specs.Change.{holder_new}
 use Rattle.board_keeps.specs.Faults.{ask_clear, free_clear, may_free}
-use Rattle.board_keeps.specs.Keeps.{step_keeps}
+use Rattle.board_keeps.proofs.Keeps.{step_keeps}
 use Rattle.board_keeps.specs.Marks.{own_vcpu}
 use Rattle.board_keeps.proofs.MarkLaws.{own_mark, own_settled}
 use Rattle.clock_rules.specs.Clock.{Timing, done_of, is_on}

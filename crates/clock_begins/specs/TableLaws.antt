@@ -8,14 +8,14 @@ use Rattle.plan.specs.declared.OverrunChoice.{OverrunChoice}
 use Rattle.plan_tables.specs.declared.PlanRecord.{PlanRecord}
 use Rattle.plan_tables.specs.Layout.{Tables}
 use Rattle.plan_tables.specs.Given.{Gives, plan_in, is_given}
-use Rattle.plan_tables.specs.GivenLaws.{given_plan}
+use Rattle.plan_tables.proofs.GivenLaws.{given_plan}
 use Rattle.figures.specs.System.{System, system}
 use Rattle.figures.specs.Tabled.{system_in}
 use Rattle.board_rules.specs.Facts.{facts_of}
 use Rattle.board_rules.specs.View.{view_length, facts_in}
 use Rattle.board_keeps.specs.Fair.{Fair}
 use Rattle.board_viewcells.specs.ViewOf.{view_of}
-use Rattle.board_viewcells.specs.FillLaws.{filled_facts}
+use Rattle.board_viewcells.proofs.FillLaws.{filled_facts}
 use Rattle.board_views.specs.TableLaws.{system_given, view_facts}
 use Rattle.log_answers.specs.Small.{Small, small}
 use Rattle.clock_rules.specs.Clock.{Timing, timing_of}

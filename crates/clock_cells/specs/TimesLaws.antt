@@ -24,7 +24,7 @@ use Rattle.board_rules.specs.View.{facts_in}
 use Rattle.board_keeps.specs.Fair.{InV, InN}
 use Rattle.board_keeps.specs.FairLaws.{fair}
 use Rattle.board_viewcells.specs.ViewOf.{view_of}
-use Rattle.board_viewcells.specs.ViewLaws.{name_in, in_name, facts_in_law}
+use Rattle.board_viewcells.proofs.ViewLaws.{name_in, in_name, facts_in_law}
 use Rattle.clock_rules.specs.Clock.{timing_of, begins_in, ends_in}
 use Rattle.clock_times.specs.Times.{at_begin, at_end, core_cell, refill_cell, period_cell, lengths_cell, mutex_with, timing_in, Paired, Ordered}
 use Rattle.clock_times.specs.Times as times

@@ -30,7 +30,7 @@ use Rattle.board_rules.specs.declared.Outcome.{Outcome}
 use Rattle.board_rules.specs.Board.{left_of, is_stopped, wait_of, holds_global, held_global, held_local, freed, freed_global, freed_local, free_fault, answered, step}
 use Rattle.board_keeps.specs.Fair.{InV, InN}
 use Rattle.board_keeps.specs.Good.{good_sound}
-use Rattle.board_keeps.specs.Keeps.{step_keeps}
+use Rattle.board_keeps.proofs.Keeps.{step_keeps}
 use Rattle.clock_rules.specs.Clock.{is_unfinished, free_of}
 use Rattle.clock_rules.specs.Trace.{event_line, lines_at}
 use Rattle.clock_times.specs.Times.{timing_in, lengths_cell}

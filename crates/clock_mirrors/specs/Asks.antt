@@ -23,7 +23,7 @@ use Rattle.board_keeps.specs.Shaped.{Shaped}
 use Rattle.board_keeps.specs.Change.{holder_new, wait_new}
 use Rattle.board_keeps.specs.Good.{good_sound, good_marked}
 use Rattle.board_keeps.specs.Faults.{ask_clear, may_free}
-use Rattle.board_keeps.specs.Keeps.{step_keeps}
+use Rattle.board_keeps.proofs.Keeps.{step_keeps}
 use Rattle.clock_rules.specs.Clock.{Timing}
 use Rattle.clock_marks.specs.Marks.{at_holding, done_cell, global_mark, held_by, Mirrors}
 use Rattle.clock_marks.specs.Changes.{PutIn, PutReady, PutHeld}

@@ -8,7 +8,7 @@ use Rattle.board_rules.specs.Board.{left_of, over_of, is_stopped, wait_of, holds
 use Rattle.board_rules.specs.Names.{seat_some}
 use Rattle.board_rules.specs.Settle.{global_hold}
 use Rattle.board_keeps.specs.Fair.{InV, InN}
-use Rattle.board_keeps.specs.Runs.{fresh_holder}
+use Rattle.board_keeps.proofs.Runs.{fresh_holder}
 use Rattle.clock_rules.specs.Clock.{Timing, at_first, is_on}
 use Rattle.clock_sets.specs.Sets.{in_set}
 use Rattle.clock_sets.specs.SetLaws.{in_none}

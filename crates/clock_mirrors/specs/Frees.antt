@@ -16,7 +16,7 @@ use Rattle.board_keeps.specs.Fair.{Fair, InV, InN, task_v}
 use Rattle.board_keeps.specs.Shaped.{Shaped}
 use Rattle.board_keeps.specs.Good.{good_sound}
 use Rattle.board_keeps.specs.Faults.{free_clear}
-use Rattle.board_keeps.specs.Keeps.{step_keeps}
+use Rattle.board_keeps.proofs.Keeps.{step_keeps}
 use Rattle.clock_rules.specs.Clock.{Timing, done_of, is_unfinished, is_ready}
 use Rattle.clock_marks.specs.Marks.{at_holding, held_cell, done_cell, done_in, global_mark, spares, held_by, Mirrors}
 use Rattle.clock_marks.specs.Changes.{PutIn, PutReady, PutHeld}

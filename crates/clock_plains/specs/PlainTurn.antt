@@ -28,7 +28,7 @@ use Rattle.board_keeps.specs.Fair.{Fair, InV}
 use Rattle.board_keeps.specs.Shaped.{Shaped}
 use Rattle.board_keeps.specs.Change.{left_new}
 use Rattle.board_keeps.specs.Good.{good_marked}
-use Rattle.board_keeps.specs.Runs.{after_good}
+use Rattle.board_keeps.proofs.Runs.{after_good}
 use Rattle.clock_rules.specs.Clock.{Timing, Run, done_of, is_ready, is_on, picked, due_of, Asks, no_ask, asks_of, asks, most_picks, idles, idle_uses, free_of, work, work_done, turn, after_turn}
 use Rattle.clock_paced.specs.Paced.{Paced}
 use Rattle.clock_steps.specs.Accepted.{board_append}

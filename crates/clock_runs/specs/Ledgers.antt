@@ -5,7 +5,7 @@ use Rattle.board_rules.specs.declared.Board.{Board}
 use Rattle.board_rules.specs.Board.{left_of, over_of}
 use Rattle.board_keeps.specs.Fair.{Fair}
 use Rattle.board_keeps.specs.Ledger.{ledger}
-use Rattle.board_keeps.specs.LedgerLaws.{ledger_balance}
+use Rattle.board_keeps.proofs.LedgerLaws.{ledger_balance}
 use Rattle.clock_rules.specs.Clock.{Timing, trace_of, trace_answers}
 use Rattle.clock_runs.specs.Runs.{state_at, Unmissed, state_board}
 

@@ -13,7 +13,7 @@ use Rattle.board_rules.specs.declared.Event.{Event}
 use Rattle.board_rules.specs.declared.BoardAnswer.{BoardAnswer}
 use Rattle.board_rules.specs.Board.{fresh, step}
 use Rattle.board_events.specs.Events.{answers, answers_by, board_after}
-use Rattle.board_events.specs.PrintedLaws.{answers_long}
+use Rattle.board_events.proofs.PrintedLaws.{answers_long}
 use Rattle.clock_rules.specs.Clock.{Timing, trace_of, trace_answers, run_of}
 use Rattle.clock_rules.specs.Trace.{event_line, lines_at, tick_text, run_text}
 use Rattle.clock_runs.specs.Runs.{answers_append, state_at, Unmissed, unmissed_before, state_board}

@@ -15,7 +15,7 @@ use Rattle.board_rules.specs.Board.{fresh, step, good}
 use Rattle.board_events.specs.Events.{answers, board_after, answers_by, board_by}
 use Rattle.board_keeps.specs.Fair.{Fair}
 use Rattle.board_keeps.specs.Shaped.{Shaped, fresh_shaped}
-use Rattle.board_keeps.specs.Runs.{run_good}
+use Rattle.board_keeps.proofs.Runs.{run_good}
 use Rattle.clock_rules.specs.Clock.{Timing, Run, at_first, tops, missed, cores, turns, after_turns, opened, tick, unless_missed, events_at, trace_from, trace_of}
 use Rattle.clock_ties.specs.Ceiled.{Ceiled, run_ceiled}
 use Rattle.clock_steps.specs.Accepted.{board_append}

@@ -29,8 +29,8 @@ use Rattle.board_keeps.specs.Good.{good_sound}
 use Rattle.board_keeps.specs.Faults.{ask_clear, free_clear, use_clear, top_clear}
 use Rattle.board_keeps.specs.Nexts.{GlobalNext, none_waits, top_waiter}
 use Rattle.board_keeps.proofs.NextLaws.{global_next}
-use Rattle.board_keeps.specs.Keeps.{step_keeps}
-use Rattle.board_keeps.specs.LedgerLaws.{supply_le}
+use Rattle.board_keeps.proofs.Keeps.{step_keeps}
+use Rattle.board_keeps.proofs.LedgerLaws.{supply_le}
 use Rattle.log_answers.specs.Small.{Small}
 use Rattle.clock_rules.specs.Trace.{event_line, lines_at}
 use Rattle.clock_steps.specs.Accepted.{is_refusal, Accepted}

@@ -16,7 +16,7 @@ use Rattle.board_rules.specs.View.{facts_in}
 use Rattle.board_rules.specs.declared.Board.{Board}
 use Rattle.board_rules.specs.Board.{left_of, over_of, is_stopped, fresh}
 use Rattle.board_keeps.specs.Fair.{InV, InN}
-use Rattle.board_viewcells.specs.ViewLaws.{name_in}
+use Rattle.board_viewcells.proofs.ViewLaws.{name_in}
 use Rattle.clock_rules.specs.Clock.{at_first, is_on}
 use Rattle.clock_sets.specs.Sets.{in_set}
 use Rattle.clock_times.specs.Times.{core_cell, lengths_cell, timing_in, Paired, Ordered}

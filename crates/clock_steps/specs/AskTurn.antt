@@ -18,7 +18,7 @@ use Rattle.board_events.specs.Events.{board_by, board_after}
 use Rattle.board_keeps.specs.Fair.{sheet_m}
 use Rattle.board_keeps.specs.Shaped.{step_shaped}
 use Rattle.board_keeps.specs.Change.{holder_new}
-use Rattle.board_keeps.specs.Keeps.{step_keeps}
+use Rattle.board_keeps.proofs.Keeps.{step_keeps}
 use Rattle.clock_rules.specs.Clock.{Timing, done_of, is_unfinished, Asks, is_wait}
 use Rattle.clock_paced.specs.Paced.{Paced}
 use Rattle.clock_steps.specs.InStep.{Served, none_held}

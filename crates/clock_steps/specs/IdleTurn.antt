@@ -17,7 +17,7 @@ use Rattle.board_rules.specs.declared.Outcome.{Outcome}
 use Rattle.board_rules.specs.Board.{left_of, supply, is_asleep, under_p, used, step}
 use Rattle.board_events.specs.Events.{board_by, board_after}
 use Rattle.board_keeps.specs.Fair.{InV}
-use Rattle.board_keeps.specs.Runs.{after_good}
+use Rattle.board_keeps.proofs.Runs.{after_good}
 use Rattle.clock_rules.specs.Clock.{Timing, is_on, idles, idle_uses}
 use Rattle.clock_paced.specs.Paced.{Paced}
 use Rattle.clock_steps.specs.Accepted.{is_refusal, Accepted, board_append, accepted_append}

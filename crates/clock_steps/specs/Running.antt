@@ -21,7 +21,7 @@ use Rattle.board_events.specs.Events.{board_by, board_after}
 use Rattle.board_keeps.specs.Fair.{InV, InN}
 use Rattle.board_keeps.specs.Shaped.{Shaped, fresh_shaped, step_shaped}
 use Rattle.board_rules.specs.Names.{seat_some}
-use Rattle.board_keeps.specs.Runs.{fresh_holder, fresh_wait, fresh_good, after_good}
+use Rattle.board_keeps.proofs.Runs.{fresh_holder, fresh_wait, fresh_good, after_good}
 use Rattle.clock_rules.specs.Clock.{Timing, done_of, by_seat, at_first, recurs, is_unfinished, tops, is_released, missed as missed_by, released}
 use Rattle.clock_paced.specs.Paced.{Paced}
 use Rattle.clock_steps.specs.InStep.{Stepped, own_begins}

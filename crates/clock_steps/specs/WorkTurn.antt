@@ -23,7 +23,7 @@ use Rattle.board_keeps.specs.Fair.{InV, InN, InM}
 use Rattle.board_keeps.specs.Good.{good_sound}
 use Rattle.board_keeps.specs.Change.{holder_new}
 use Rattle.board_rules.specs.Change.{holder_else}
-use Rattle.board_keeps.specs.Runs.{after_good}
+use Rattle.board_keeps.proofs.Runs.{after_good}
 use Rattle.clock_rules.specs.Clock.{Timing, done_of, is_unfinished, is_ready, is_on, idles, idle_uses, free_of, work, work_done}
 use Rattle.clock_paced.specs.Paced.{Paced}
 use Rattle.clock_steps.specs.InStep.{Served, end_held}

@@ -24,8 +24,8 @@ use Rattle.board_rules.specs.Change.{holder_else}
 use Rattle.board_keeps.specs.Moves.{HoldersBut}
 use Rattle.board_rules.specs.LocalNext.{LocalNext, no_waiter, top_fails, top_passes, local_next}
 use Rattle.board_keeps.specs.Faults.{AskClear, ask_clear, FreeClear, free_clear}
-use Rattle.board_keeps.specs.Keeps.{step_keeps}
-use Rattle.board_keeps.specs.Runs.{fresh_holder, fresh_good}
+use Rattle.board_keeps.proofs.Keeps.{step_keeps}
+use Rattle.board_keeps.proofs.Runs.{fresh_holder, fresh_good}
 
 -- where two tasks a and c of v hold the local mutexes m and k, the ceiling of k is below a, or that of m below c (H says who holds)
 pub record CeiledBy (F : Facts) (H : ℕ → ℕ) : Type 0 where

@@ -18,7 +18,7 @@ use Rattle.board_rules.specs.Lent.{outcome_of}
 use Rattle.board_events.specs.Events.{board_after, board_by}
 use Rattle.board_keeps.specs.Fair.{Fair}
 use Rattle.board_keeps.specs.Shaped.{Shaped}
-use Rattle.board_keeps.specs.Runs.{after_good}
+use Rattle.board_keeps.proofs.Runs.{after_good}
 use Rattle.clock_rules.specs.Trace.{event_line, lines_at}
 use Rattle.clock_times.specs.Times.{timing_in}
 use Rattle.clock_marks.specs.Marks.{spares, Mirrors}

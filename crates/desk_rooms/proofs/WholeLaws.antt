@@ -4,7 +4,7 @@ use Rattle.std.proofs.Common.{sym, ap, ◌∙◌, arith, le-leb, ltb-false, leng
 use Rattle.plan.specs.Limits.{max_input}
 use Rattle.plan.specs.Refusals.{no_room}
 use Rattle.plan.specs.Reading.{Reading, Accepts, Refuses, reading}
-use Rattle.plan.specs.Accepted.{read_text_law}
+use Rattle.plan.proofs.Accepted.{read_text_law}
 use Rattle.plan_fields.specs.Few.{field_few}
 use Rattle.listing.specs.Listing.{refused_line, verdict_text}
 use Rattle.listing_order.specs.Bound.{refused_bound, refused_line_law, verdict_bound}

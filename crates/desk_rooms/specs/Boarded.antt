@@ -7,7 +7,7 @@ use Rattle.board_rules.specs.Facts.{Facts, facts_of}
 use Rattle.board_rules.specs.Board.{fresh}
 use Rattle.board_events.specs.Events.{replies_to}
 use Rattle.board_keeps.specs.FairLaws.{fair}
-use Rattle.board_keeps.specs.Runs.{fresh_good}
+use Rattle.board_keeps.proofs.Runs.{fresh_good}
 use Rattle.log_answers.specs.Small.{small}
 use Rattle.log_answers.specs.Bound.{answers_bound}
 

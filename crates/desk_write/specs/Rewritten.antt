@@ -9,7 +9,7 @@ use Rattle.plan.specs.Refusals.{no_room}
 use Rattle.plan.specs.Plan.{Plan}
 use Rattle.plan.specs.Text.{text}
 use Rattle.plan.specs.Reading.{Reading, Accepts, Refuses, reading}
-use Rattle.plan.specs.Accepted.{read_text_law}
+use Rattle.plan.proofs.Accepted.{read_text_law}
 use Rattle.plan_fields.specs.Few.{field_few}
 use Rattle.plan_tables.specs.declared.PlanRecord.{PlanRecord}
 use Rattle.plan_tables.specs.Layout.{Tables, lent}

@@ -11,12 +11,12 @@ use Rattle.plan.specs.declared.OverrunChoice.{OverrunChoice}
 use Rattle.plan.specs.declared.OverrunChoice.TheVariants.{WithOverrun, WithoutOverrun}
 use Rattle.plan_tables.specs.declared.PlanRecord.{PlanRecord}
 use Rattle.plan_tables.specs.Layout.{Tables}
-use Rattle.plan_tables.specs.GivenLaws.{given_exactly}
+use Rattle.plan_tables.proofs.GivenLaws.{given_exactly}
 use Rattle.listing_lines.specs.declared.TextAnswer.{TextAnswer}
 use Rattle.listing_lines.specs.declared.TextAnswer.TheVariants.{Refused}
 use Rattle.listing_lines.specs.Into.{bytes_in}
 use Rattle.write_asked.specs.Asked.{plan_asked, plan_left}
-use Rattle.write_asked.specs.Back.{Outcome, Whole, Short, Nobody, outcome}
+use Rattle.write_asked.proofs.Back.{Outcome, Whole, Short, Nobody, outcome}
 use Rattle.write_asked.specs.Short.{most_text, text_short}
 
 abbrev pub policy_number : Policy → ℕ

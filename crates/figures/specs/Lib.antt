@@ -4,9 +4,6 @@ pub mod Named
 pub mod Answers
 pub mod Kinds
 pub mod KindLaws
-pub mod Demands
 pub mod Tabled
 pub mod Parts
 pub mod PartLaws
-pub mod Second
-pub mod NamedLaws

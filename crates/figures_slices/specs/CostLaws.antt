@@ -11,7 +11,7 @@ use Rattle.laws.specs.SumLaws.{sum_both, sum_same, each_append, when_plus}
 use Rattle.laws.specs.Rows.{rows, Is}
 use Rattle.laws.specs.RowLaws.{each_rows}
 use Rattle.search.specs.Search.{solve}
-use Rattle.search.specs.SearchLaws.{solve_same}
+use Rattle.search.proofs.SearchLaws.{solve_same}
 use Rattle.search.specs.Row.{Row, Picked, Sound, share, rows_demand}
 use Rattle.search.specs.TableLaws.{sum_pick, demand_pick, each_pick, picked_in, picked_out}
 use Rattle.plan.specs.declared.Policy.{Policy}

@@ -3,13 +3,13 @@ use Rattle.std.specs.Prelude.{ℕ, ◌<◌, ◌≡◌, Bool, true, false}
 use Rattle.std.proofs.Common.{ap, sym, ◌∙◌}
 use Rattle.laws.specs.Rows.{rows}
 use Rattle.plan.specs.Lookup.{has_vcpu}
-use Rattle.plan.specs.LookupLaws.{declared_exactly, of_declared}
+use Rattle.plan.proofs.LookupLaws.{declared_exactly, of_declared}
 use Rattle.plan.specs.Valid.{Valid}
 use Rattle.plan_tables.specs.declared.PlanRecord.{PlanRecord}
 use Rattle.plan_tables.specs.Layout.{Tables, vcpu_row, task_row}
 use Rattle.plan_tables.specs.Given.{plan_in, is_given, if_given}
-use Rattle.plan_tables.specs.GivenLaws.{given_plan, row_valid, tasks_in, if_given_law, if_foreign}
-use Rattle.plan_tables.specs.Sound.{given_sound}
+use Rattle.plan_tables.proofs.GivenLaws.{given_plan, row_valid, tasks_in, if_given_law, if_foreign}
+use Rattle.plan_tables.proofs.Sound.{given_sound}
 use Rattle.figures.specs.System.{System, system}
 use Rattle.figures.specs.Tabled.{system_in, Fit}
 

@@ -16,7 +16,7 @@ use Rattle.laws.specs.SumLaws.{flat_append}
 use Rattle.search.specs.declared.Answer.{Answer}
 use Rattle.search.specs.declared.Answer.TheVariants.{Fits, Late}
 use Rattle.search.specs.Search.{window, Smallest, solve}
-use Rattle.search.specs.SearchLaws.{solve_right}
+use Rattle.search.proofs.SearchLaws.{solve_right}
 use Rattle.search.specs.Row.{row_in}
 use Rattle.plan.specs.declared.Lock.{Lock}
 use Rattle.plan.specs.Plan.{Task}
@@ -24,7 +24,7 @@ use Rattle.plan.specs.Lookup.{global}
 use Rattle.plan_tables.specs.Layout.{cell, zeros, over, vcpu_row, lock_row, task_row, task_width}
 use Rattle.figures.specs.System.{System}
 use Rattle.figures.specs.Figures.{wait_start, wait_demand, is_section}
-use Rattle.figures.specs.Demands.{wait_demand_law}
+use Rattle.figures.proofs.Demands.{wait_demand_law}
 use Rattle.figures.specs.Answers.{vcpu_answer, wait_answer, task_answer, ticks_of, is_late}
 use Rattle.figures_slices.specs.Store.{answer_cells, task_answer_cells, wait_cells, place_cells, vcpu_answers, wait_answers, task_answers}
 use Rattle.figures_slices.specs.Filled.{row_cells, three_of, answer_row, task_answer_row, section_at, place_row, place_at, Filled, Places}

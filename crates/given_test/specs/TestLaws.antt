@@ -6,17 +6,17 @@ use Rattle.laws.specs.Rows.{rows}
 use Rattle.plan.specs.Text.{items_of}
 use Rattle.plan.specs.Rules as known
 use Rattle.plan.specs.Reading.{Passes, rules}
-use Rattle.plan.specs.ValidLaws.{passes_valid, valid_passes}
+use Rattle.plan.proofs.ValidLaws.{passes_valid, valid_passes}
 use Rattle.plan.specs.declared.Kind.TheVariants.{EndLine}
 use Rattle.plan.specs.Line.{Item}
 use Rattle.plan.specs.Text as text
 use Rattle.judge_coded.specs.Coded.{coded, start}
-use Rattle.judge_coded.specs.Agrees.{same_passes}
+use Rattle.judge_coded.proofs.Agrees.{same_passes}
 use Rattle.plan_tables.specs.declared.PlanRecord.{PlanRecord}
 use Rattle.plan_tables.specs.Layout.{Tables, vcpu_row}
 use Rattle.plan_tables.specs.Given.{plan_in, roomy, is_given}
-use Rattle.plan_tables.specs.GivenLaws.{Tested, clean_passes, roomy_exactly, tested_exactly, row_few}
-use Rattle.plan_tables.specs.Sound.{given_sound}
+use Rattle.plan_tables.proofs.GivenLaws.{Tested, clean_passes, roomy_exactly, tested_exactly, row_few}
+use Rattle.plan_tables.proofs.Sound.{given_sound}
 use Rattle.given_tidy.specs.TestLaws.{few_exactly, tidy_exactly, tidy_at, tidy_all}
 use Rattle.given_test.specs.Feed.{Run, fresh, feed, feeds, passing, lined, vcpu_lines, mutex_lines, open_lines, task_lines}
 use Rattle.given_test.specs.FeedLaws.{fed_clean, feeds_append}

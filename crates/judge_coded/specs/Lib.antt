@@ -2,5 +2,4 @@ pub mod Coded
 pub mod Same
 pub mod TableLaws
 pub mod SameLaws
-pub mod Agrees
 pub mod KindLaws

@@ -16,7 +16,7 @@ use Rattle.plan.specs.Plan.{Owner, Global, Local, Open}
 use Rattle.plan.specs.Lookup.{is_global, is_local_to}
 use Rattle.plan.specs.Rules.{Known, within, nth, vcpu_of, vcpu_fits, rule, tests_of, moved, with_mutex, learn}
 use Rattle.plan.specs.JudgeLaws.{clear_test, clear_rest}
-use Rattle.plan.specs.RuleLaws.{in_range_law}
+use Rattle.plan.proofs.RuleLaws.{in_range_law}
 use Rattle.judge_coded.specs.Coded.{Seen, global, bump, ranged, vcpu_fault, mutex_fault, open_fault, guest_fault, host_fault, task_fault, run_fault, lock_fault, ruled, after_vcpu, after_mutex, after_open, placed, seen_by}
 use Rattle.judge_coded.specs.Same.{Same}
 use Rattle.judge_coded.specs.TableLaws.{byte_small, vcpus_more, mutexes_more, opens_more}

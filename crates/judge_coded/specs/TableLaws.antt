@@ -14,7 +14,7 @@ use Rattle.plan.specs.Plan.{Vcpu, Owner, Mutex, Open}
 use Rattle.plan.specs.Lookup.{has_vcpu, is_vcpu_of, has_guest, is_global, is_local_to, has_mutex, local_to, opened}
 use Rattle.plan.specs.Lookup as lookup
 use Rattle.plan.specs.Rules.{within}
-use Rattle.plan.specs.RuleLaws.{in_range_law}
+use Rattle.plan.proofs.RuleLaws.{in_range_law}
 use Rattle.plan.specs.ListLaws.{last_append}
 use Rattle.judge_coded.specs.Coded.{byte, global, openings, ranged, slot}
 use Rattle.judge_coded.specs.Same.{VcpusSame, MutexesSame, OpensSame}

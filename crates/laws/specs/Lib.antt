@@ -5,7 +5,6 @@ pub mod Bytes
 pub mod Decimal
 pub mod BoolLaws
 pub mod BytesLaws
-pub mod DecimalLaws
 pub mod SumLaws
 pub mod RangeLaws
 pub mod Rows

@@ -1,5 +1,3 @@
 pub mod Former
 pub mod NoLater
-pub mod FormerLaws
-pub mod Moves
 pub mod Cases

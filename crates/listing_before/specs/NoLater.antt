@@ -5,7 +5,7 @@ use Rattle.std.proofs.Common.{arith}
 use Rattle.search.specs.declared.Answer.{Answer}
 use Rattle.search.specs.declared.Answer.TheVariants.{Fits, Late}
 use Rattle.search.specs.Search.{window, Demand, solve}
-use Rattle.search.specs.SearchLaws.{order_solve}
+use Rattle.search.proofs.SearchLaws.{order_solve}
 use Rattle.figures.specs.declared.TaskAnswer.{TaskAnswer}
 use Rattle.figures.specs.declared.TaskAnswer.TheVariants.{Searched}
 

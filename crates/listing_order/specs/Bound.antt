@@ -14,7 +14,7 @@ use Rattle.laws.specs.Bytes.{pieces, on_first, is_nil}
 use Rattle.search.specs.declared.Answer.{Answer}
 use Rattle.search.specs.declared.Answer.TheVariants.{Fits, Late}
 use Rattle.search.specs.Search.{Demand, Right, solve}
-use Rattle.search.specs.SearchLaws.{few_rounds, solve_right}
+use Rattle.search.proofs.SearchLaws.{few_rounds, solve_right}
 use Rattle.plan.specs.Limits.{max_v, max_n, max_period, max_tasks, max_locks, max_input, lf}
 use Rattle.plan.specs.Line.{Item, w_one, item_of}
 use Rattle.plan.specs.declared.Refusal.{Refusal}
@@ -29,12 +29,12 @@ use Rattle.plan.specs.Reading.{Judge, Verdict, Faultless, FirstBad, fault_of, ne
 use Rattle.plan.specs.Gathered.{plan_of, items_in}
 use Rattle.plan.specs.Rules.{start}
 use Rattle.plan.specs.Valid.{Valid}
-use Rattle.plan.specs.Accepted.{read_text_law}
+use Rattle.plan.proofs.Accepted.{read_text_law}
 use Rattle.plan_fields.specs.Few.{field_few}
 use Rattle.plan_tables.specs.RisingLaws.{rising_few}
-use Rattle.plan_tables.specs.GivenLaws.{tasks_valid}
+use Rattle.plan_tables.proofs.GivenLaws.{tasks_valid}
 use Rattle.figures.specs.System.{System, system}
-use Rattle.figures.specs.Demands.{vcpu_demand_law, wait_demand_law, task_demand_law}
+use Rattle.figures.proofs.Demands.{vcpu_demand_law, wait_demand_law, task_demand_law}
 use Rattle.figures.specs.declared.TaskAnswer.{TaskAnswer}
 use Rattle.figures.specs.declared.TaskAnswer.TheVariants.{Searched, NoWait, Held}
 use Rattle.figures.specs.Answers.{vcpu_answer, wait_answer, task_answer, remote_waits, lacks_wait, is_held, all_fit}

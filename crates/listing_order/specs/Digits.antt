@@ -4,7 +4,7 @@ use Rattle.std.proofs.Common.{arith, length-append}
 use Rattle.laws.specs.Sums.{sum}
 use Rattle.laws.specs.Bytes.{joined}
 use Rattle.laws.specs.Decimal.{decimal}
-use Rattle.laws.specs.DecimalLaws.{decimal_length}
+use Rattle.laws.proofs.DecimalLaws.{decimal_length}
 use Rattle.plan.specs.Limits.{tab, lf}
 use Rattle.listing.specs.Listing.{line}
 

@@ -11,7 +11,7 @@ use Rattle.plan.specs.declared.OverrunChoice.TheVariants.{WithOverrun, WithoutOv
 use Rattle.plan.specs.declared.Lock.{Lock}
 use Rattle.plan.specs.Plan.{Task, Plan, tasks_of}
 use Rattle.plan.specs.Valid.{LockValid, TaskValid, Valid}
-use Rattle.plan_tables.specs.GivenLaws.{tasks_valid}
+use Rattle.plan_tables.proofs.GivenLaws.{tasks_valid}
 use Rattle.figures.specs.System.{system}
 use Rattle.figures.specs.Figures.{vcpu_at, no_vcpu, global_ticks, longest_global, ght, overrun_by, overrun_of, is_section}
 use Rattle.board_rules.specs.Facts.{Facts, facts_of}

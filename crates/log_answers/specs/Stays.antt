@@ -8,9 +8,9 @@ use Rattle.board_rules.specs.declared.BoardAnswer.TheVariants.{Granted, Waits, F
 use Rattle.board_rules.specs.declared.Outcome.{Outcome}
 use Rattle.board_events.specs.Events.{on_line}
 use Rattle.board_rules.specs.Settle.{Marked}
-use Rattle.board_events.specs.LineMarks.{line_marked}
+use Rattle.board_events.proofs.LineMarks.{line_marked}
 use Rattle.board_events.specs.Printed.{LineSays, AnEvent, NoEvent, says_of}
-use Rattle.board_events.specs.PrintedLaws.{on_says, line_says}
+use Rattle.board_events.proofs.PrintedLaws.{on_says, line_says}
 use Rattle.board_keeps.specs.Leaves.{Leaves, step_leaves}
 use Rattle.log_answers.specs.Tells.{moving}
 

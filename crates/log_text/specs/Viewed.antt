@@ -7,7 +7,7 @@ use Rattle.plan.specs.declared.OverrunChoice.{OverrunChoice}
 use Rattle.plan_tables.specs.declared.PlanRecord.{PlanRecord}
 use Rattle.plan_tables.specs.Layout.{Tables}
 use Rattle.plan_tables.specs.Given.{plan_in, is_given}
-use Rattle.plan_tables.specs.GivenLaws.{given_plan}
+use Rattle.plan_tables.proofs.GivenLaws.{given_plan}
 use Rattle.figures.specs.System.{system}
 use Rattle.figures.specs.Tabled.{system_in}
 use Rattle.board_rules.specs.Facts.{facts_of}

@@ -13,12 +13,7 @@ pub mod ListLaws
 pub mod KindLaws
 pub mod LineLaws
 pub mod JudgeLaws
-pub mod PlanLines
-pub mod LookupLaws
-pub mod RuleLaws
-pub mod ValidLaws
 pub mod Simulated
-pub mod Accepted
 pub mod FirstFault
 pub mod LowestFault
 pub mod Fields

@@ -8,7 +8,7 @@ use Rattle.laws.specs.Bytes.{pieces, joined, above, same, is_nil}
 use Rattle.laws.specs.BytesLaws.{same_equal, lacks, each_lacks, pieces_joined, joined_pieces, above_lacks, joined_lacks}
 use Rattle.laws.specs.Sums.{all}
 use Rattle.laws.specs.Decimal.{value, decimal}
-use Rattle.laws.specs.DecimalLaws.{value_decimal, decimal_value, above_decimal}
+use Rattle.laws.proofs.DecimalLaws.{value_decimal, decimal_value, above_decimal}
 use Rattle.plan.specs.Limits.{max_digits, tab, lf}
 use Rattle.plan.specs.Line.{Found, Is, Nothing, Kind, Form, Word, Num, Item, shape, kinds, bad, head_or, has_shape, number_at, numbers, fields_of, kind_in, item_from, item_of, line_of, written}
 use Rattle.plan.specs.KindLaws.{each_kind, all_kind}

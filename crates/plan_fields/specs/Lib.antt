@@ -1,6 +1,5 @@
 pub mod Own
 pub mod PlacedLaws
-pub mod OwnLaws
 pub mod Few
 pub mod Before
 pub mod BeforeLaws

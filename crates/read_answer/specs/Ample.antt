@@ -8,12 +8,12 @@ use Rattle.plan.specs.Refusals.{no_room}
 use Rattle.plan.specs.Plan.{Plan}
 use Rattle.plan.specs.Valid.{Valid}
 use Rattle.plan.specs.Reading.{Reading, Accepts, Refuses, reading}
-use Rattle.plan.specs.Accepted.{read_text_law}
+use Rattle.plan.proofs.Accepted.{read_text_law}
 use Rattle.plan_tables.specs.declared.PlanRecord.{PlanRecord}
 use Rattle.plan_tables.specs.Layout.{Tables, lent, vcpu_width, mutex_width, open_width, task_width, record_of}
 use Rattle.plan_tables.specs.Given.{roomy}
-use Rattle.plan_tables.specs.GivenLaws.{roomy_exactly}
-use Rattle.plan_tables.specs.Sound.{valid_vcpus, valid_mutexes, valid_opens}
+use Rattle.plan_tables.proofs.GivenLaws.{roomy_exactly}
+use Rattle.plan_tables.proofs.Sound.{valid_vcpus, valid_mutexes, valid_opens}
 use Rattle.judge_coded.specs.Coded.{start}
 use Rattle.read_tally.specs.Tally.{blank}
 use Rattle.read_fill.specs.Fill.{vcpu_put, mutex_put, open_put, task_put}

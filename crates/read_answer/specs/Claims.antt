@@ -15,13 +15,13 @@ use Rattle.plan.specs.Plan.{Task, Plan, tasks_of}
 use Rattle.plan.specs.Text.{text}
 use Rattle.plan.specs.Valid.{Valid}
 use Rattle.plan.specs.Reading.{Reading, Accepts, Refuses, reading}
-use Rattle.plan.specs.Accepted.{read_text_law, text_read}
+use Rattle.plan.proofs.Accepted.{read_text_law, text_read}
 use Rattle.plan_tables.specs.declared.PlanRecord.{PlanRecord}
 use Rattle.plan_tables.specs.Layout.{Tables, vcpu_width, mutex_width, open_width, task_width, vcpu_cells, mutex_cells, open_cells, task_cells, over, filled, record_of}
 use Rattle.plan_tables.specs.FlatLaws.{each_of, flat_length}
-use Rattle.plan_tables.specs.LayoutLaws.{task_wide}
+use Rattle.plan_tables.proofs.LayoutLaws.{task_wide}
 use Rattle.plan_tables.specs.Given.{Gives, roomy, is_given, plan_in}
-use Rattle.plan_tables.specs.GivenLaws.{Roomy, roomy_exactly, valid_few, given_exactly, given_plan, tested_exactly}
+use Rattle.plan_tables.proofs.GivenLaws.{Roomy, roomy_exactly, valid_few, given_exactly, given_plan, tested_exactly}
 use Rattle.read_answer.specs.Into.{PlanAnswer, Accepted, Refused, answer_into, plan_answer, tables_after}
 use Rattle.read_answer.specs.RoomLaws.{never_room}
 use Rattle.read_answer.specs.JudgedLaws.{after_filled, after_kept, after_refused}

@@ -23,11 +23,11 @@ use Rattle.plan.specs.Line.{shape, has_shape, kind_in, item_of}
 use Rattle.plan.specs.Plan.{Plan}
 use Rattle.plan.specs.Reading.{Verdict, Faultless, FirstBad, judge, fault, fault_of, field_at, next_of, onward, answer, Reading, Accepts, Refuses, reading_by, reading}
 use Rattle.plan.specs.Gathered.{items_in, plan_of}
-use Rattle.plan.specs.Accepted.{read_text_law}
+use Rattle.plan.proofs.Accepted.{read_text_law}
 use Rattle.plan_tables.specs.declared.PlanRecord.{PlanRecord}
 use Rattle.plan_tables.specs.Layout.{Tables, filled, record_of}
 use Rattle.plan_tables.specs.Given.{roomy_by, roomy, is_clear}
-use Rattle.plan_tables.specs.GivenLaws.{roomy_exactly}
+use Rattle.plan_tables.proofs.GivenLaws.{roomy_exactly}
 use Rattle.text_lines.specs.declared.Said.{Said}
 use Rattle.text_lines.specs.Said.{said_of, said_item}
 use Rattle.text_lines.specs.Said as said
@@ -37,7 +37,7 @@ use Rattle.text_scan.specs.ScanLaws.{line_said, ended_pieces, last_piece}
 use Rattle.judge_coded.specs.declared.Seen.{Seen}
 use Rattle.judge_coded.specs.Coded.{coded, start}
 use Rattle.judge_coded.specs.Coded as code
-use Rattle.judge_coded.specs.Agrees.{same_reading}
+use Rattle.judge_coded.proofs.Agrees.{same_reading}
 use Rattle.read_tally.specs.declared.Tally.{Tally}
 use Rattle.read_tally.specs.Tally.{record_in, tallied, tally_after, blank}
 use Rattle.read_tally.specs.TallyLaws.{text_record}

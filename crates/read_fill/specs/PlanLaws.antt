@@ -8,7 +8,7 @@ use Rattle.plan.specs.Plan.{Plan}
 use Rattle.plan.specs.Text.{items_of, text}
 use Rattle.plan.specs.Valid.{Valid}
 use Rattle.plan_tables.specs.Layout.{Tables, filled, record_of}
-use Rattle.plan_tables.specs.GivenLaws.{Roomy}
+use Rattle.plan_tables.proofs.GivenLaws.{Roomy}
 use Rattle.text_lines.specs.declared.Said.{Said}
 use Rattle.read_tally.specs.declared.Tally.{Tally}
 use Rattle.read_tally.specs.Tally.{blank}

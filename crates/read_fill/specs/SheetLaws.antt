@@ -24,7 +24,7 @@ use Rattle.plan.specs.declared.OverrunChoice.{OverrunChoice}
 use Rattle.plan.specs.declared.OverrunChoice.TheVariants.{WithOverrun, WithoutOverrun}
 use Rattle.plan.specs.Text.{item, policy_kind, run_item, lock_items, task_items, section_items, items_of}
 use Rattle.plan_tables.specs.Layout.{zeros, lock_cells, task_cells, task_width, over}
-use Rattle.plan_tables.specs.LayoutLaws.{Few, task_wide, zeros_length}
+use Rattle.plan_tables.proofs.LayoutLaws.{Few, task_wide, zeros_length}
 use Rattle.plan_tables.specs.FlatLaws.{flat_length}
 use Rattle.read_tally.specs.declared.Tally.{Tally}
 use Rattle.plan_tables.specs.RowPlaces.{most}

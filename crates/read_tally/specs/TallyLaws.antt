@@ -19,9 +19,9 @@ use Rattle.plan.specs.Plan.{Plan, tasks_of}
 use Rattle.plan.specs.Text.{item, policy_kind, items_of, text}
 use Rattle.plan.specs.Rules.{start}
 use Rattle.plan.specs.Valid.{Valid}
-use Rattle.plan.specs.ValidLaws.{valid_passes}
+use Rattle.plan.proofs.ValidLaws.{valid_passes}
 use Rattle.plan_tables.specs.Layout.{record_of}
-use Rattle.plan_tables.specs.Sound.{valid_vcpus, valid_mutexes, valid_opens}
+use Rattle.plan_tables.proofs.Sound.{valid_vcpus, valid_mutexes, valid_opens}
 use Rattle.plan_tables.specs.RowPlaces.{most}
 use Rattle.read_tally.specs.Tally.{Tally, mark_of, bumped, policy_by, overrun_by, tally_by, tallied, blank, record_in}
 use Rattle.read_tally.specs.ItemLaws.{tallied_items, WrittenItem, lines_tallied, text_pieces, passes_written, over_vcpus, over_mutexes, over_opens, over_sections, from_sections, from_opens, from_mutexes, from_vcpus, pick, vcpus_picked, mutexes_picked, opens_picked, tasks_picked, vcpus_long, mutexes_long, opens_long}

@@ -16,10 +16,10 @@ use Rattle.plan.specs.Valid.{Valid}
 use Rattle.plan_tables.specs.declared.PlanRecord.{PlanRecord}
 use Rattle.plan_tables.specs.Layout.{Tables, lent, task_width, task_cells, over, filled}
 use Rattle.plan_tables.specs.FlatLaws.{flat_length}
-use Rattle.plan_tables.specs.LayoutLaws.{task_wide}
+use Rattle.plan_tables.proofs.LayoutLaws.{task_wide}
 use Rattle.plan_tables.specs.Given.{Gives, plan_in, is_given, if_given}
-use Rattle.plan_tables.specs.GivenLaws.{gives_kept, valid_few, given_plan, given_exactly, plan_given}
-use Rattle.plan_tables.specs.Sound.{given_sound}
+use Rattle.plan_tables.proofs.GivenLaws.{gives_kept, valid_few, given_plan, given_exactly, plan_given}
+use Rattle.plan_tables.proofs.Sound.{given_sound}
 use Rattle.records.specs.Sheet.{Task, task_nums, sheet_rows, cut_to, tables_of}
 use Rattle.records.specs.SheetLaws.{sheet_long}
 

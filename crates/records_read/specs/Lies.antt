@@ -9,11 +9,11 @@ use Rattle.plan.specs.Refusals.{no_room}
 use Rattle.plan.specs.Plan.{Plan}
 use Rattle.plan.specs.Valid.{Valid}
 use Rattle.plan.specs.Reading.{Reading, Accepts, Refuses, reading}
-use Rattle.plan.specs.Accepted.{read_text_law}
+use Rattle.plan.proofs.Accepted.{read_text_law}
 use Rattle.plan_tables.specs.declared.PlanRecord.{PlanRecord}
 use Rattle.plan_tables.specs.Layout.{Tables, lent, record_of}
 use Rattle.plan_tables.specs.Given.{Gives, plan_in, is_given, roomy}
-use Rattle.plan_tables.specs.GivenLaws.{plan_given}
+use Rattle.plan_tables.proofs.GivenLaws.{plan_given}
 use Rattle.read_fill.specs.Fill.{vcpu_put, mutex_put, open_put, task_put}
 use Rattle.read_answer.specs.declared.PlanAnswer.{PlanAnswer}
 use Rattle.read_answer.specs.declared.PlanAnswer.TheVariants.{Accepted, Refused}

@@ -20,14 +20,14 @@ use Rattle.plan.specs.Refusals.{no_room}
 use Rattle.plan.specs.Plan.{Plan, tasks_of}
 use Rattle.plan.specs.Valid.{Valid}
 use Rattle.plan.specs.Reading.{Reading, Accepts, Refuses, reading}
-use Rattle.plan.specs.Accepted.{read_text_law}
+use Rattle.plan.proofs.Accepted.{read_text_law}
 use Rattle.plan_tables.specs.declared.PlanRecord.{PlanRecord}
 use Rattle.plan_tables.specs.Layout.{Tables, lent, task_width, vcpu_width, mutex_width, open_width, task_cells, filled, record_of}
 use Rattle.plan_tables.specs.FlatLaws.{flat_length, over_rows}
-use Rattle.plan_tables.specs.LayoutLaws.{task_wide}
+use Rattle.plan_tables.proofs.LayoutLaws.{task_wide}
 use Rattle.plan_tables.specs.Given.{roomy_by, roomy, is_given}
-use Rattle.plan_tables.specs.Sound.{given_sound}
-use Rattle.plan_tables.specs.GivenLaws.{valid_few, roomy_exactly}
+use Rattle.plan_tables.proofs.Sound.{given_sound}
+use Rattle.plan_tables.proofs.GivenLaws.{valid_few, roomy_exactly}
 use Rattle.read_answer.specs.declared.PlanAnswer.{PlanAnswer}
 use Rattle.read_answer.specs.declared.PlanAnswer.TheVariants.{Accepted, Refused}
 use Rattle.read_answer.specs.Into.{answer_into, tables_into, plan_answer, tables_after}

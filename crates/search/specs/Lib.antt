@@ -1,4 +1,3 @@
 pub mod Search
-pub mod SearchLaws
 pub mod Row
 pub mod TableLaws

@@ -3,7 +3,7 @@ use Rattle.std.specs.Prelude.{ℕ, suc, ◌+◌, ◌/◌, ◌%◌, ◌^◌, ◌�
 use Rattle.std.proofs.Common.{ap, sym, ◌∙◌, arith}
 use Rattle.std.proofs.Math.Nat.{pow-le-pow_right}
 use Rattle.laws.specs.Decimal.{decimal, digits}
-use Rattle.laws.specs.DecimalLaws.{digits_one, digits_more, decimal_digits, below_power}
+use Rattle.laws.proofs.DecimalLaws.{digits_one, digits_more, decimal_digits, below_power}
 use Rattle.text_letters.specs.Wrote.{Joins}
 
 decimal_one : (n : ℕ) → n < 10 → decimal n ≡ (48 + n) ∷ []

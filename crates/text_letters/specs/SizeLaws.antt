@@ -2,7 +2,7 @@
 use Rattle.std.specs.Prelude.{ℕ, ◌+◌, ◌/◌, ◌^◌, ◌≤◌, ◌<◌, ◌≡◌, refl, List, [], ◌∷◌, length}
 use Rattle.std.proofs.Common.{ap, ◌∙◌, arith, length-append}
 use Rattle.laws.specs.Decimal.{decimal}
-use Rattle.laws.specs.DecimalLaws.{decimal_length}
+use Rattle.laws.proofs.DecimalLaws.{decimal_length}
 use Rattle.text_letters.specs.Wrote.{Joins, Sized}
 use Rattle.text_letters.specs.Tabbed.{tabbed, rest}
 use Rattle.text_letters.specs.TabbedLaws.{rest_joins}

@@ -3,7 +3,7 @@ use Rattle.std.specs.Prelude.{ℕ, ◌+◌, ◌*◌, ◌≤◌, ◌<◌, ◌^◌
 use Rattle.std.proofs.Common.{sym, inl, inr, arith, lt-ltb, le-ltb, leb-true}
 use Rattle.std.proofs.Math.Nat.{pow-le-pow_right}
 use Rattle.laws.specs.Decimal.{digit_of, scan, starts, value}
-use Rattle.laws.specs.DecimalLaws.{scan_room}
+use Rattle.laws.proofs.DecimalLaws.{scan_room}
 use Rattle.plan.specs.Limits.{max_digits}
 use Rattle.plan.specs.Line.{bad, number_at}
 

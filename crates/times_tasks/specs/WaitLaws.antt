@@ -8,7 +8,7 @@ use Rattle.laws.specs.SumLaws.{sum_same, sum_one, each_append}
 use Rattle.laws.specs.Rows.{rows}
 use Rattle.laws.specs.RowLaws.{each_rows}
 use Rattle.search.specs.Search.{solve}
-use Rattle.search.specs.SearchLaws.{solve_same}
+use Rattle.search.proofs.SearchLaws.{solve_same}
 use Rattle.search.specs.Row.{Row, Sound, share, rows_demand, rows_in, pushed}
 use Rattle.search.specs.TableLaws.{sum_pick, demand_append, each_pick, rows_push}
 use Rattle.plan.specs.Plan.{Vcpu, Task}

@@ -4,7 +4,7 @@ use Rattle.std.proofs.Common.{ap, sym, ◌∙◌, suc-mul, zero-mul, arith, leb-
 use Rattle.std.proofs.lemmas.Bool.{false≢true}
 use Rattle.laws.specs.BoolLaws.{both_left, both_right}
 use Rattle.laws.specs.Bytes.{joined, ended}
-use Rattle.laws.specs.DecimalLaws.{decimal_length}
+use Rattle.laws.proofs.DecimalLaws.{decimal_length}
 use Rattle.laws.specs.Sums.{all}
 use Rattle.laws.specs.Rows.{rows}
 use Rattle.plan.specs.Limits.{max_locks, max_digits, tab, lf}
@@ -14,18 +14,18 @@ use Rattle.plan.specs.Line.{Form, Word, Num, Item, bad, shape, fields_of, line_o
 use Rattle.plan.specs.KindLaws.{all_kind}
 use Rattle.plan.specs.Plan.{Vcpu, Plan}
 use Rattle.plan.specs.Valid.{Valid}
-use Rattle.plan.specs.Accepted.{read_text_law, text_once}
+use Rattle.plan.proofs.Accepted.{read_text_law, text_once}
 use Rattle.plan.specs.Text.{item, lines_of, text_of, items_of, text}
 use Rattle.plan.specs.Rules.{Known, start}
 use Rattle.plan.specs.Reading.{Passes, rules}
 use Rattle.plan.specs.JudgeLaws.{fault_written}
-use Rattle.plan.specs.ValidLaws.{valid_passes}
+use Rattle.plan.proofs.ValidLaws.{valid_passes}
 use Rattle.plan_tables.specs.declared.PlanRecord.{PlanRecord}
 use Rattle.plan_tables.specs.Layout.{Tables, lent, task_width, cell, vcpu_row, zeros, record_of}
 use Rattle.plan_tables.specs.Given.{plan_in, is_given}
-use Rattle.plan_tables.specs.LayoutLaws.{zeros_length}
-use Rattle.plan_tables.specs.GivenLaws.{roomy_exactly, plan_given, given_plan}
-use Rattle.plan_tables.specs.Sound.{Sound, given_sound}
+use Rattle.plan_tables.proofs.LayoutLaws.{zeros_length}
+use Rattle.plan_tables.proofs.GivenLaws.{roomy_exactly, plan_given, given_plan}
+use Rattle.plan_tables.proofs.Sound.{Sound, given_sound}
 use Rattle.read_answer.specs.Into.{tables_after}
 use Rattle.read_answer.specs.Ample.{ample_roomy}
 use Rattle.read_answer.specs.Claims.{accepted_with_room, accepted_gives, accepted_given}

@@ -1,7 +1,7 @@
 use Rattle.board_rules.specs.Names.{in_v, in_m}
 use Rattle.board_rules.specs.Lent.{board_of}
 use Rattle.board_rules.specs.BoardLaws.{global_next}
-use Rattle.board_rules.specs.LentLaws.{global_told}
+use Rattle.board_rules.proofs.LentLaws.{global_told}
 use Rattle.board_rules.proofs.freed_global.Goals as goal
 
 pub returns : goal.returns

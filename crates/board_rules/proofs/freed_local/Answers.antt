@@ -3,7 +3,7 @@ use lib.ListN.{set}
 use Rattle.board_rules.specs.Names.{in_v, in_m}
 use Rattle.board_rules.specs.Lent.{board_of}
 use Rattle.board_rules.specs.BoardLaws.{local_next}
-use Rattle.board_rules.specs.LentLaws.{local_told}
+use Rattle.board_rules.proofs.LentLaws.{local_told}
 use Rattle.board_rules.proofs.freed_local.Goals as goal
 
 pub returns : goal.returns

@@ -1,6 +1,6 @@
 use mathlib.Core.Path.{◌∙◌}
 use Rattle.board_rules.specs.BoardLaws.{next_none}
-use Rattle.board_rules.specs.LentLaws.{grant_next}
+use Rattle.board_rules.proofs.LentLaws.{grant_next}
 use Rattle.board_rules.specs.Lent.{board_of}
 use Rattle.board_rules.proofs.grant.Goals as goal
 

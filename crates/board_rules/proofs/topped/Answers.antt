@@ -1,5 +1,5 @@
 use Rattle.board_rules.specs.Names.{in_v}
-use Rattle.board_rules.specs.LentLaws.{top_told}
+use Rattle.board_rules.proofs.LentLaws.{top_told}
 use Rattle.board_rules.proofs.topped.Goals as goal
 
 pub returns : goal.returns

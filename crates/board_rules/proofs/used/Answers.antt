@@ -1,5 +1,5 @@
 use Rattle.board_rules.specs.Names.{in_v}
-use Rattle.board_rules.specs.LentLaws.{use_told}
+use Rattle.board_rules.proofs.LentLaws.{use_told}
 use Rattle.board_rules.proofs.used.Goals as goal
 
 pub returns : goal.returns

@@ -3,7 +3,7 @@ use mathlib.Core.Path.{◌≡◌, refl, ap₂, sym, ◌∙◌}
 use mathlib.Core.Bool.{true, false, ◌&&◌}
 use native.Mathlib.Omega.{arith}
 use Rattle.laws.specs.BoolLaws.{both_left, both_right}
-use Rattle.plan.specs.RuleLaws.{in_range_law}
+use Rattle.plan.proofs.RuleLaws.{in_range_law}
 use Rattle.board_seats.specs.Seats.{is_v, is_n, is_m}
 use Rattle.board_seats.specs.SeatLaws.{Ranges, ranges, when_yes, when_no}
 use Rattle.board_seats.proofs.lock.Goals as goal

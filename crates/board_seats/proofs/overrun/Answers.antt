@@ -1,7 +1,7 @@
 use Prim.Native.Nat.{◌≤◌}
 use mathlib.Core.Path.{sym, ◌∙◌}
 use native.Mathlib.Omega.{arith}
-use Rattle.plan.specs.RuleLaws.{in_range_law}
+use Rattle.plan.proofs.RuleLaws.{in_range_law}
 use Rattle.board_seats.specs.SeatLaws.{when_yes, when_no}
 use Rattle.board_seats.proofs.overrun.Goals as goal
 use Rattle.board_seats.proofs.overrun.Goals.{Then-within}

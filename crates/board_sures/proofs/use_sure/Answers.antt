@@ -1,7 +1,7 @@
 use native.Mathlib.Omega.{arith}
 use Rattle.plan.specs.JudgeLaws.{clear_test}
 use Rattle.board_reserves.specs.SupplyLaws.{vcpu_range}
-use Rattle.board_rules.specs.LentLaws.{sure_used}
+use Rattle.board_rules.proofs.LentLaws.{sure_used}
 use borrow.Author.Rules.{rules}
 use Rattle.board_sures.proofs.use_sure.Goals as goal
 

@@ -2,7 +2,7 @@ use mathlib.Core.Path.{ap}
 use lib.ListN.{get_or}
 use native.Mathlib.Omega.{arith}
 use Rattle.board_reserves.specs.SupplyLaws.{vcpu_range}
-use Rattle.board_rules.specs.LentLaws.{within_told}
+use Rattle.board_rules.proofs.LentLaws.{within_told}
 use borrow.Author.Rules.{rules}
 use Rattle.board_sures.proofs.use_within.Goals as goal
 

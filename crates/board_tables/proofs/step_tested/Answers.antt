@@ -3,7 +3,7 @@ use mathlib.Core.Path.{sym, ◌∙◌}
 use Rattle.board_tables.specs.EnteredLaws.{tested_other}
 use Rattle.board_rules.specs.View.{facts_in}
 use Rattle.board_keeps.specs.Good.{good_marked}
-use Rattle.board_keeps.specs.Runs.{step_on_law}
+use Rattle.board_keeps.proofs.Runs.{step_on_law}
 use Rattle.board_tables.proofs.step_tested.Goals as goal
 
 pub step_on-requires : goal.step_on-requires

@@ -1,6 +1,6 @@
 -- `overrun_of` meets its contract.
 use Rattle.figures.specs.Tabled.{system_in}
-use Rattle.board_viewcells.specs.FillLaws.{overrun_is}
+use Rattle.board_viewcells.proofs.FillLaws.{overrun_is}
 use Rattle.board_viewcells.proofs.overrun_of.Goals as goal
 
 pub returns : goal.returns

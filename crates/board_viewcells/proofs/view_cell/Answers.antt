@@ -1,5 +1,5 @@
 -- `view_cell` meets its contract: k says which part it is in, and which names it is of.
-use Rattle.board_viewcells.specs.FillLaws.{budget_place, ceiling_place, overrun_place, owner_place, task_place}
+use Rattle.board_viewcells.proofs.FillLaws.{budget_place, ceiling_place, overrun_place, owner_place, task_place}
 use Rattle.board_viewcells.specs.ViewOf.{bit}
 use mathlib.Core.Path.{◌∙◌, ap}
 use Rattle.board_viewcells.proofs.view_cell.Goals as goal

@@ -1,5 +1,5 @@
 -- `fill_blank` meets its contract: the numbers before this one are written.
-use Rattle.board_viewcells.specs.FillLaws.{written_more, written_none}
+use Rattle.board_viewcells.proofs.FillLaws.{written_more, written_none}
 use Rattle.board_views.specs.SheetLaws.{written_blank}
 use borrow.Author.Rules.{rules}
 use mathlib.Core.Path.{refl}

@@ -1,7 +1,7 @@
 -- `fill_blank` meets its contract: the numbers before this one are written.
 use Prim.Native.Nat.{◌-◌}
 use Rattle.figures.specs.Tabled.{system_in}
-use Rattle.board_viewcells.specs.FillLaws.{Written}
+use Rattle.board_viewcells.proofs.FillLaws.{Written}
 use Rattle.board_views.specs.Sheets.{blank_at}
 use lib.ListN.{length}
 use Rattle.board_views.proofs.fill_blank.Given as goal

@@ -1,6 +1,6 @@
 -- `top` meets its contract: the event, its supply, its line.
 use borrow.Author.Rules.{rules}
-use Rattle.board_rules.specs.LentLaws.{marked_lent}
+use Rattle.board_rules.proofs.LentLaws.{marked_lent}
 use Rattle.clock_tops.specs.TopLaws.{line_room, one_top}
 use Rattle.clock_tops.proofs.top.Statement.{statement}
 use Rattle.clock_tops.proofs.top.Tie as tie

@@ -1,6 +1,6 @@
 -- `put_body` meets its contract.
 use Rattle.text_letters.specs.WroteLaws.{first_fits, ends, rest_fits, both_fit, both_wrote}
-use Rattle.listing_sizes.specs.TextLaws.{vcpus_joins}
+use Rattle.listing_sizes.proofs.TextLaws.{vcpus_joins}
 use borrow.Author.Rules.{rules}
 use Rattle.listing_pages.proofs.put_body.Goals as goal
 

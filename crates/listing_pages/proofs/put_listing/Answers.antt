@@ -1,6 +1,6 @@
 -- `put_listing` meets its contract.
 use Rattle.text_letters.specs.WroteLaws.{first_fits, ends, rest_fits, both_fit, both_wrote}
-use Rattle.listing_sizes.specs.TextLaws.{listing_joins}
+use Rattle.listing_sizes.proofs.TextLaws.{listing_joins}
 use borrow.Author.Rules.{rules}
 use Rattle.listing_pages.proofs.put_listing.Goals as goal
 

@@ -1,6 +1,6 @@
 -- `put_tail` meets its contract.
 use Rattle.text_letters.specs.WroteLaws.{wrote_as, fits_as, first_fits, ends, rest_fits, both_fit, both_wrote}
-use Rattle.listing_sizes.specs.TextLaws.{tasks_joins, all_text_law}
+use Rattle.listing_sizes.proofs.TextLaws.{tasks_joins, all_text_law}
 use borrow.Author.Rules.{rules}
 use Rattle.listing_pages.proofs.put_tail.Goals as goal
 

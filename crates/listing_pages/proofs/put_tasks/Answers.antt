@@ -4,7 +4,7 @@ use Rattle.listing_waits.specs.FilledLaws.{filled_none, filled_ends, filled_fits
 use lib.ListN.{get_or}
 use Rattle.plan_tables.specs.Layout.{task_row}
 use Rattle.listing.specs.Listing.{task_lines}
-use Rattle.listing_sizes.specs.TextLaws.{tasks_text_law}
+use Rattle.listing_sizes.proofs.TextLaws.{tasks_text_law}
 use borrow.Author.Rules.{rules}
 use native.Mathlib.Omega.{arith}
 use Rattle.listing_pages.proofs.put_tasks.Goals as goal

@@ -1,6 +1,6 @@
 -- `put_vcpu` meets its contract.
 use Rattle.text_letters.specs.WroteLaws.{wrote_as, fits_as}
-use Rattle.listing_sizes.specs.TextLaws.{vcpu_text_law}
+use Rattle.listing_sizes.proofs.TextLaws.{vcpu_text_law}
 use Rattle.listing_pages.proofs.put_vcpu.Goals as goal
 
 pub vcpu_line-requires : goal.vcpu_line-requires

@@ -2,7 +2,7 @@
 use Prim.Native.Nat.{◌-◌}
 use Rattle.listing_waits.specs.FilledLaws.{filled_none, filled_ends, filled_fits, filled_sum, filled_more, filled_all}
 use Rattle.listing_sizes.specs.Texts.{place_text}
-use Rattle.listing_sizes.specs.TextLaws.{waits_text}
+use Rattle.listing_sizes.proofs.TextLaws.{waits_text}
 use borrow.Author.Rules.{rules}
 use native.Mathlib.Omega.{arith}
 use Rattle.listing_pages.proofs.put_waits.Goals as goal

@@ -1,5 +1,5 @@
 -- `is_wait` meets its contract.
-use Rattle.listing_sizes.specs.TextLaws.{wait_is}
+use Rattle.listing_sizes.proofs.TextLaws.{wait_is}
 use Rattle.listing_sizes.proofs.is_wait.Goals as goal
 
 pub returns : goal.returns

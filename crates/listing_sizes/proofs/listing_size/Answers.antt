@@ -1,6 +1,6 @@
 -- `listing_size` meets its contract.
 use Rattle.text_letters.specs.SizeLaws.{sized_as}
-use Rattle.listing_sizes.specs.TextLaws.{listing_joins, vcpus_joins, tasks_joins, all_text_law, both_sized}
+use Rattle.listing_sizes.proofs.TextLaws.{listing_joins, vcpus_joins, tasks_joins, all_text_law, both_sized}
 use Rattle.listing_sizes.proofs.listing_size.Goals as goal
 
 pub returns : goal.returns

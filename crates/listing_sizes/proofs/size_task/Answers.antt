@@ -1,6 +1,6 @@
 -- `size_task` meets its contract.
 use Rattle.text_letters.specs.SizeLaws.{sized_as}
-use Rattle.listing_sizes.specs.TextLaws.{task_text_law, task_joins, both_sized}
+use Rattle.listing_sizes.proofs.TextLaws.{task_text_law, task_joins, both_sized}
 use Rattle.listing_sizes.proofs.size_task.Goals as goal
 
 pub returns : goal.returns

@@ -4,7 +4,7 @@ use lib.ListN.{get_or}
 use Rattle.laws.specs.RowLaws.{summed_none}
 use Rattle.plan_tables.specs.Layout.{task_row}
 use Rattle.listing.specs.Listing.{task_lines}
-use Rattle.listing_sizes.specs.TextLaws.{sized_more, sized_all, tasks_text_law}
+use Rattle.listing_sizes.proofs.TextLaws.{sized_more, sized_all, tasks_text_law}
 use native.Mathlib.Omega.{arith}
 use Rattle.listing_sizes.proofs.size_tasks.Goals as goal
 

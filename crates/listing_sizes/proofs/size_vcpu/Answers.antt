@@ -1,6 +1,6 @@
 -- `size_vcpu` meets its contract.
 use Rattle.text_letters.specs.SizeLaws.{sized_as}
-use Rattle.listing_sizes.specs.TextLaws.{vcpu_text_law}
+use Rattle.listing_sizes.proofs.TextLaws.{vcpu_text_law}
 use Rattle.listing_sizes.proofs.size_vcpu.Goals as goal
 
 pub returns : goal.returns

@@ -5,7 +5,7 @@ use Rattle.laws.specs.RowLaws.{summed_none}
 use Rattle.plan_tables.specs.Layout.{vcpu_row}
 use Rattle.figures.specs.Tabled.{system_in}
 use Rattle.listing.specs.Listing.{vcpu_line}
-use Rattle.listing_sizes.specs.TextLaws.{sized_more, sized_all}
+use Rattle.listing_sizes.proofs.TextLaws.{sized_more, sized_all}
 use Rattle.listing_sizes.proofs.size_vcpus.Goals as goal
 
 pub loop-a-init : goal.loop-a-init

@@ -1,6 +1,6 @@
 -- `size_wait` meets its contract.
 use Rattle.text_letters.specs.SizeLaws.{sized_as}
-use Rattle.listing_sizes.specs.TextLaws.{place_text_law, place_none, none_sized}
+use Rattle.listing_sizes.proofs.TextLaws.{place_text_law, place_none, none_sized}
 use Rattle.listing_sizes.proofs.size_wait.Goals as goal
 
 pub returns-then-not-is_wait : goal.returns-then-not-is_wait

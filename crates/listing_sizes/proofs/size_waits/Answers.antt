@@ -2,7 +2,7 @@
 use Prim.Native.Nat.{◌-◌}
 use Rattle.laws.specs.RowLaws.{summed_none}
 use Rattle.listing_sizes.specs.Texts.{place_text}
-use Rattle.listing_sizes.specs.TextLaws.{sized_more, sized_all, waits_text}
+use Rattle.listing_sizes.proofs.TextLaws.{sized_more, sized_all, waits_text}
 use native.Mathlib.Omega.{arith}
 use Rattle.listing_sizes.proofs.size_waits.Goals as goal
 

@@ -1,6 +1,6 @@
 -- `put_wait` meets its contract.
 use Rattle.text_letters.specs.WroteLaws.{wrote_as, fits_as}
-use Rattle.listing_sizes.specs.TextLaws.{place_text_law, place_none}
+use Rattle.listing_sizes.proofs.TextLaws.{place_text_law, place_none}
 use Rattle.listing_waits.specs.FilledLaws.{wrote_none}
 use Rattle.listing_waits.proofs.put_wait.Goals as goal
 

@@ -2,7 +2,7 @@
 use mathlib.Core.Path.{◌∙◌, sym}
 use Rattle.figures_slices.specs.FitLaws.{given_fit}
 use Rattle.listing_asked.specs.Asked.{listing_of}
-use Rattle.listing_asked.specs.AskedLaws.{foreign_answer, foreign_left, listing_answer, listing_left_law}
+use Rattle.listing_asked.proofs.AskedLaws.{foreign_answer, foreign_left, listing_answer, listing_left_law}
 use Rattle.listing_write.proofs.write_listing.Goals as goal
 
 pub returns-then-not-is_given : goal.returns-then-not-is_given

@@ -1,4 +1,4 @@
-use Rattle.plan_tables.specs.GivenLaws.{roomy_code}
+use Rattle.plan_tables.proofs.GivenLaws.{roomy_code}
 use Rattle.plan_tables.proofs.roomy.Goals as goal
 
 pub returns : goal.returns

@@ -2,7 +2,7 @@
 use Prim.Native.Nat.{◌-◌}
 use native.Mathlib.Omega.{arith}
 use Rattle.search.specs.Row.{rows_demand_law}
-use Rattle.search.specs.SearchLaws.{trace_start, trace_grows, trace_next, solve_fits, solve_late}
+use Rattle.search.proofs.SearchLaws.{trace_start, trace_grows, trace_next, solve_fits, solve_late}
 use Rattle.search_least.proofs.least.Goals as goal
 
 pub loop-x-init : goal.loop-x-init

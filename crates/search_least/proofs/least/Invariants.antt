@@ -1,7 +1,7 @@
 -- `search_least::least` meets its contract: its loop is a trace of the recurrence.
 use Prim.Native.Nat.{◌+◌, ◌-◌}
 use Rattle.search.specs.Row.{rows_in, rows_demand}
-use Rattle.search.specs.SearchLaws.{Trace}
+use Rattle.search.proofs.SearchLaws.{Trace}
 use Rattle.search_least.proofs.least.Given as goal
 
 abbrev pub invariant-loop-x : goal.invariant-loop-x

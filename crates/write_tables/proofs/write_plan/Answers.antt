@@ -1,7 +1,7 @@
 -- `write_tables::write_plan` meets its contract.
 use mathlib.Core.Path.{◌∙◌, sym}
 use Rattle.plan.specs.Text.{text}
-use Rattle.listing_asked.specs.AskedLaws.{foreign_answer, foreign_left, given_answer, given_left}
+use Rattle.listing_asked.proofs.AskedLaws.{foreign_answer, foreign_left, given_answer, given_left}
 use Rattle.write_tables.proofs.write_plan.Goals as goal
 
 pub returns-then-not-is_given : goal.returns-then-not-is_given

@@ -3,7 +3,7 @@ use Rattle.plan.specs.JudgeLaws.{clear_test}
 use Rattle.board_reserves.specs.SupplyLaws.{known_range}
 use Rattle.board_rules.specs.BoardLaws.{ask_by}
 use Rattle.board_rules.specs.Lent.{board_of}
-use Rattle.board_rules.specs.LentLaws.{may_in, fault_in}
+use Rattle.board_rules.proofs.LentLaws.{may_in, fault_in}
 use Rattle.board_rules.proofs.Board.ask_in.Goals as goal
 
 pub may_have-may-requires : goal.may_have-may-requires

@@ -1,4 +1,4 @@
-use Rattle.board_rules.specs.LentLaws.{sure_range, sure_granted, sure_waits}
+use Rattle.board_rules.proofs.LentLaws.{sure_range, sure_granted, sure_waits}
 use Rattle.board_rules.proofs.Board.ask_sure.Goals as goal
 
 pub seat-requires : goal.seat-requires

@@ -1,5 +1,5 @@
 use Rattle.board_rules.specs.View.{facts_in}
-use Rattle.board_rules.specs.LentLaws.{marked_lent}
+use Rattle.board_rules.proofs.LentLaws.{marked_lent}
 use borrow.Author.Rules.{rules}
 use Rattle.board_rules.proofs.Board.free_on.Goals as goal
 

@@ -2,7 +2,7 @@ use mathlib.Core.Path.{sym, ◌∙◌}
 use Rattle.plan.specs.JudgeLaws.{clear_test}
 use Rattle.board_reserves.specs.SupplyLaws.{known_range}
 use Rattle.board_rules.specs.BoardLaws.{free_by}
-use Rattle.board_rules.specs.CompleteLaws.{free_own}
+use Rattle.board_rules.proofs.CompleteLaws.{free_own}
 use Rattle.board_rules.specs.Lent.{board_of}
 use Rattle.board_rules.proofs.Board.free_sure.Goals as goal
 

@@ -1,0 +1,2 @@
+pub mod LineMarks
+pub mod PrintedLaws

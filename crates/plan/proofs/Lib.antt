@@ -1,0 +1,5 @@
+pub mod LookupLaws
+pub mod RuleLaws
+pub mod ValidLaws
+pub mod Accepted
+pub mod PlanLines

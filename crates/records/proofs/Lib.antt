@@ -1,3 +1,0 @@
-pub mod Kit
-pub mod Lent
-pub mod Face

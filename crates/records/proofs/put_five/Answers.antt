@@ -1,0 +1,20 @@
+-- `records::put_five` meets its contract.
+use native.Mathlib.Omega.{arith}
+use native.Mathlib.Numerals.{unary_clauses}
+use lib.ListN.{length-set}
+use Rattle.records.proofs.put_five.Goals as goal
+
+pub bounds-d-k-2 : goal.bounds-d-k-2
+bounds-d-k-2 c = simp length-set (omega arith)
+
+pub bounds-d-k-3 : goal.bounds-d-k-3
+bounds-d-k-3 c = simp length-set (omega arith)
+
+pub bounds-d-k-4 : goal.bounds-d-k-4
+bounds-d-k-4 c = simp length-set (omega arith)
+
+pub bounds-d-k-5 : goal.bounds-d-k-5
+bounds-d-k-5 c = simp length-set (omega arith)
+
+pub returns : goal.returns
+returns c = simp unary_clauses
