@@ -1,3 +1,2 @@
 // Events as lines in, answers as lines out: this crate has definitions and proofs only, in specs/.
 #![tactic(auto)]
-

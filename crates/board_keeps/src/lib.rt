@@ -1,3 +1,2 @@
 // Theorems on the board's events: this crate has proofs only, in specs/.
 #![tactic(auto)]
-

@@ -1,3 +1,2 @@
 // The turn of one core, beside another core that is plain: this crate has definitions and proofs only, in specs/.
 #![tactic(auto)]
-

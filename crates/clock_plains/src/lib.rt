@@ -1,3 +1,2 @@
 // Stretches of ticks in which a core's turn stays the same: this crate has definitions and proofs only, in specs/.
 #![tactic(auto)]
-
