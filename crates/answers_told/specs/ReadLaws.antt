@@ -5,7 +5,7 @@ use Rattle.std.proofs.Common.{ap, ◌∙◌, le_refl, lt-ltb, ne_eqb, eqb-true, 
 use native.Mathlib.Omega.{arith}
 use Rattle.std.proofs.Math.ListN.{length}
 use Rattle.laws.specs.BoolLaws.{both}
-use Rattle.laws.specs.Choice.{if◌then◌else◌}
+use Rattle.std.specs.Prelude.{if◌then◌else◌}
 use Rattle.laws.specs.Sums.{flat, all}
 use Rattle.laws.specs.Rows.{rows}
 use Rattle.laws.specs.RowLaws.{rows_length, rows_at, all_next}

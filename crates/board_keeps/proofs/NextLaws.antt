@@ -6,7 +6,7 @@ use native.Mathlib.Omega.{arith}
 use Rattle.std.proofs.Common.{eq-zero-or-pos, eq-or-lt_of_le}
 use borrow.Author.Tests.{eqb-true, eq-eqb, ne_eqb}
 use Rattle.std.proofs.Math.Dec.{eqb}
-use Rattle.laws.specs.Choice.{if◌then◌else◌}
+use Rattle.std.specs.Prelude.{if◌then◌else◌}
 use Rattle.laws.specs.Range.{any_to, highest}
 use Rattle.laws.specs.RangeLaws.{any_hit, highest_le, highest_passes, highest_least, any_at}
 use Rattle.plan.specs.Limits.{max_v, most_n}

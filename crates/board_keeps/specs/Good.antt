@@ -2,7 +2,7 @@
 use Rattle.std.specs.Prelude.{ℕ, ◌*◌, ◌≤◌, ◌≡◌, Bool, true, false, ◌&&◌, ◌||◌, not, ◌⊎◌, eqb, ltb, leb}
 use Rattle.std.proofs.Common.{sym, ap, ◌∙◌, inl, inr, ⊎_elim, arith, leb-true, ltb-false, eqb-true, le-leb, le-ltb, eq-eqb, ne_eqb}
 use Rattle.std.proofs.lemmas.Bool.{eqb-false, not-true, not-false}
-use Rattle.laws.specs.Choice.{if◌then◌else◌}
+use Rattle.std.specs.Prelude.{if◌then◌else◌}
 use Rattle.laws.specs.Range.{all_to, highest}
 use Rattle.laws.specs.RangeLaws.{all_at, all_of, all_miss, highest_is, miss_at}
 use Rattle.laws.specs.BoolLaws.{both_left, both_right, both, either_left, either_right, neither_left, neither_right, bool_cases, either_of, or_else}

@@ -1,6 +1,6 @@
 -- The ticks accepted for a VCPU since its last `top` (or the start), added up from the events and their answers.
 use Rattle.std.specs.Prelude.{ℕ, ◌+◌, Bool, true, false, ◌&&◌, List, [], ◌∷◌, eqb}
-use Rattle.laws.specs.Choice.{if◌then◌else◌}
+use Rattle.std.specs.Prelude.{if◌then◌else◌}
 use Rattle.board_rules.specs.declared.Event.{Event}
 use Rattle.board_rules.specs.declared.Event.TheVariants.{Ask, Free, Use, Top, Show}
 use Rattle.board_rules.specs.declared.BoardAnswer.{BoardAnswer}

@@ -1,7 +1,7 @@
 -- The lengths of a board's lists, which every event keeps.
 use Rattle.std.specs.Prelude.{ℕ, ◌-◌, ◌*◌, ◌≡◌, Bool, true, false, List, length}
 use Rattle.std.proofs.Common.{◌∙◌, length-set}
-use Rattle.laws.specs.Choice.{if◌then◌else◌}
+use Rattle.std.specs.Prelude.{if◌then◌else◌}
 use Rattle.laws.specs.RangeLaws.{list_length}
 use Rattle.plan.specs.Limits.{max_v, max_m, most_n}
 use Rattle.plan.specs.declared.Fault.{Fault}

@@ -1,7 +1,7 @@
 -- Supply, marks, faults and conditions of one VCPU, on a board's arrays: t is the view, ls the budgets left, os the overruns left, ss the stopped marks,
 -- hs the holders, ws the waits.
 use Rattle.std.specs.Prelude.{ℕ, ◌+◌, ◌-◌, List, Bool, true, false, ◌&&◌, ◌||◌, not, eqb, leb, get_or}
-use Rattle.laws.specs.Choice.{if◌then◌else◌}
+use Rattle.std.specs.Prelude.{if◌then◌else◌}
 use Rattle.laws.specs.Range.{any_to}
 use Rattle.plan.specs.Limits.{max_m, max_ticks}
 use Rattle.plan.specs.declared.Policy.{Policy}

@@ -2,7 +2,7 @@
 #![tactic(auto)]
 
 ghost use Rattle.std.specs.Prelude.{◌≡◌, true, ◌+◌, ◌≤◌, min};
-ghost use Rattle.laws.specs.Choice.{if◌then◌else◌};
+ghost use Rattle.std.specs.Prelude.{if◌then◌else◌};
 ghost use Rattle.plan.specs.Limits.{max_ticks};
 ghost use Rattle.board_walks.specs.Walks.{holds_global};
 ghost use Rattle.board_reserves.specs.Supplies.{reserve, supply_at, budget_after, overrun_after};

@@ -2,7 +2,8 @@
 use Rattle.std.specs.Prelude.{ℕ, suc, ◌-◌, ◌<◌, ◌≡◌, List, Bool, true, false, ◌&&◌, eqb, ltb, get_or}
 use Rattle.std.proofs.Common.{sym, ap, subst, ◌∙◌, arith}
 use borrow.Author.Tests.{eqb-true, ltb-true}
-use Rattle.laws.specs.Choice.{if◌then◌else◌, when}
+use Rattle.std.specs.Prelude.{if◌then◌else◌}
+use Rattle.laws.specs.Choice.{when}
 use Rattle.laws.specs.RangeLaws.{list_at}
 use Rattle.laws.specs.BoolLaws.{both_left, both_right, is_false}
 use Rattle.plan.specs.Limits.{max_v}

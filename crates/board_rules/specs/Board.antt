@@ -1,6 +1,6 @@
 -- The board: what it holds, its events, and the conditions for 9.
 use Rattle.std.specs.Prelude.{ℕ, ◌+◌, ◌-◌, ◌*◌, max, List, Bool, false, ◌&&◌, ◌||◌, not, eqb, ltb, leb, get_or, set}
-use Rattle.laws.specs.Choice.{if◌then◌else◌}
+use Rattle.std.specs.Prelude.{if◌then◌else◌}
 use Rattle.laws.specs.Range.{any_to, all_to, highest, list_to}
 use Rattle.plan.specs.Limits.{max_v, max_m, most_n, max_ticks, task_raise, vcpu_raise}
 use Rattle.plan.specs.declared.Refusal.{Refusal}

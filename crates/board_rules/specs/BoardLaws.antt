@@ -2,7 +2,7 @@
 use Rattle.std.specs.Prelude.{ℕ, ◌+◌, ◌-◌, ◌*◌, ◌/◌, ◌%◌, ◌≡◌, List, Bool, true, false, ◌&&◌, ◌↔◌, eqb, get_or, set}
 use Rattle.std.proofs.Math.Path.{refl, ap}
 use Rattle.std.proofs.Common.{sym, ◌∙◌, arith, ne_eqb}
-use Rattle.laws.specs.Choice.{if◌then◌else◌}
+use Rattle.std.specs.Prelude.{if◌then◌else◌}
 use Rattle.laws.specs.Range.{any_to, all_to, highest}
 use Rattle.laws.specs.RangeLaws.{none_at, none_of, highest_zero}
 use Rattle.plan.specs.Limits.{max_v, max_m, most_n}

@@ -5,7 +5,7 @@ use Rattle.std.proofs.Common.{sym, ap, ◌∙◌, arith, eq-zero-or-pos}
 use Rattle.std.proofs.Math.Bool.{true, false}
 use Rattle.std.proofs.Math.Logic.{⊎_elim}
 use borrow.Author.Tests.{eqb-false, ne_eqb, not-true}
-use Rattle.laws.specs.Choice.{if◌then◌else◌}
+use Rattle.std.specs.Prelude.{if◌then◌else◌}
 use Rattle.laws.specs.RangeLaws.{highest_le, highest_passes, highest_least}
 use Rattle.laws.specs.BoolLaws.{both_left, both_right, both, bool_cases}
 use Rattle.plan.specs.Limits.{most_n}

@@ -2,7 +2,8 @@
 #![tactic(auto)]
 
 ghost use Rattle.std.specs.Prelude.{◌≡◌, false, ◌&&◌, ◌||◌, not, ◌-◌, ◌≤◌, ◌<◌, get_or};
-ghost use Rattle.laws.specs.Choice.{if◌then◌else◌, when};
+ghost use Rattle.std.specs.Prelude.{if◌then◌else◌};
+ghost use Rattle.laws.specs.Choice.{when};
 ghost use Rattle.board_seats.specs.Seats.{is_v, is_n, is_m, seat, owner_at, task_at, lock_at, has_vcpu, budget_of, overrun_of, has_task, lists_it, has_mutex, is_global, is_local, ceiling_of, holds_it, held_by_other, wait_at, local_waiter};
 
 use plan::within;

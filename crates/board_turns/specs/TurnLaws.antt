@@ -1,7 +1,7 @@
 -- A loop that counts: before the first, one more, after the last.
 use Rattle.std.specs.Prelude.{ℕ, suc, ◌+◌, ◌<◌, ◌≤◌, ◌≡◌, Bool, true, false, ◌||◌, ltb}
 use Rattle.std.proofs.Common.{sym, ◌∙◌, ap, le_antisymm, add-one, arith, lt-ltb}
-use Rattle.laws.specs.Choice.{if◌then◌else◌}
+use Rattle.std.specs.Prelude.{if◌then◌else◌}
 use Rattle.laws.specs.BoolLaws.{either_left}
 use Rattle.laws.specs.Range.{any_to}
 use Rattle.laws.specs.RangeLaws.{any_none}

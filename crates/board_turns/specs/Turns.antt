@@ -1,6 +1,6 @@
 -- Whose turn it is, on a board's arrays: t is the view, hs the holders, ws the waits.
 use Rattle.std.specs.Prelude.{ℕ, ◌+◌, ◌-◌, ◌*◌, max, List, Bool, eqb, get_or}
-use Rattle.laws.specs.Choice.{if◌then◌else◌}
+use Rattle.std.specs.Prelude.{if◌then◌else◌}
 use Rattle.laws.specs.Range.{any_to, highest}
 use Rattle.plan.specs.Limits.{max_v, most_n, task_raise, vcpu_raise}
 use Rattle.board_seats.specs.Seats.{is_global, ceiling_of, wait_at, local_waiter}

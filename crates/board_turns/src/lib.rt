@@ -2,7 +2,7 @@
 #![tactic(auto)]
 
 ghost use Rattle.std.specs.Prelude.{◌≡◌, ◌≤◌, length};
-ghost use Rattle.laws.specs.Choice.{if◌then◌else◌};
+ghost use Rattle.std.specs.Prelude.{if◌then◌else◌};
 ghost use Rattle.board_turns.specs.Turns.{may_have_at, awaited_at, waiter_v, waiter_n, local_next_at, priority_at, vcpu_priority_at};
 
 use plan::larger;

@@ -1,6 +1,7 @@
 -- The view of a plan: what the board asks of it, in the order in which the board reads it.
 use Rattle.std.specs.Prelude.{ℕ, Bool, List, [], ◌∷◌}
-use Rattle.laws.specs.Choice.{if◌then◌else◌, when}
+use Rattle.std.specs.Prelude.{if◌then◌else◌}
+use Rattle.laws.specs.Choice.{when}
 use Rattle.laws.specs.Sums.{flat}
 use Rattle.laws.specs.Range.{highest, list_to, flat_to}
 use Rattle.plan.specs.Limits.{max_v, max_m, most_n}

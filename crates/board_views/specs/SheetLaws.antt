@@ -10,7 +10,8 @@ use native.Mathlib.Omega.{arith}
 use Rattle.std.proofs.Math.ListN.{set, length-set}
 use Rattle.std.proofs.Math.Seq.{get_or-set_other}
 use Rattle.laws.specs.BoolLaws.{both, both_left, both_right, clash}
-use Rattle.laws.specs.Choice.{if◌then◌else◌, when}
+use Rattle.std.specs.Prelude.{if◌then◌else◌}
+use Rattle.laws.specs.Choice.{when}
 use Rattle.laws.specs.Sums.{any}
 use Rattle.laws.specs.Rows.{rows}
 use Rattle.plan.specs.Limits.{max_v, max_m, most_n}

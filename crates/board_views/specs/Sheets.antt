@@ -1,6 +1,7 @@
 -- The sheets of a view, task row by task row: each lock of each row sets one number.
 use Rattle.std.specs.Prelude.{ℕ, ◌+◌, ◌-◌, ◌*◌, ◌<◌, ◌≤◌, ◌≡◌, Bool, false, ◌&&◌, List, [], ◌∷◌, ltb, length, get_or, set}
-use Rattle.laws.specs.Choice.{if◌then◌else◌, when}
+use Rattle.std.specs.Prelude.{if◌then◌else◌}
+use Rattle.laws.specs.Choice.{when}
 use Rattle.plan.specs.Limits.{max_v, max_m, most_n}
 use Rattle.plan.specs.Plan.{Task}
 use Rattle.figures.specs.System.{System}

@@ -1,6 +1,6 @@
 -- What the walks over mutexes and tasks find: t is the view, hs the holders, ws the waits.
 use Rattle.std.specs.Prelude.{ℕ, ◌-◌, ◌*◌, List, [], Bool, ◌&&◌, ◌||◌, not, eqb, ltb, leb, get_or}
-use Rattle.laws.specs.Choice.{if◌then◌else◌}
+use Rattle.std.specs.Prelude.{if◌then◌else◌}
 use Rattle.laws.specs.Range.{any_to, all_to, highest, list_to}
 use Rattle.plan.specs.Limits.{max_v, max_m, most_n}
 use Rattle.board_seats.specs.Seats.{is_global, is_local, lists_it, ceiling_of, holds_it, held_by_other, wait_at, local_waiter}

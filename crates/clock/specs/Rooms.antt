@@ -1,7 +1,7 @@
 -- Room for the lines that `clock` prints, and for how far its run goes.
 use Rattle.std.specs.Prelude.{ℕ, ◌+◌, ◌^◌, ◌≤◌, ◌<◌, ◌≡◌, refl, List, [], ◌∷◌, Bool, true, false, leb, length}
 use Rattle.std.proofs.Common.{sym, ap, subst, ◌∙◌, arith, leb-true, length-append}
-use Rattle.laws.specs.Choice.{if◌then◌else◌}
+use Rattle.std.specs.Prelude.{if◌then◌else◌}
 use Rattle.laws.specs.Bytes.{pieces, is_nil}
 use Rattle.laws.specs.Decimal.{decimal}
 use Rattle.laws.specs.BoolLaws.{both_right}

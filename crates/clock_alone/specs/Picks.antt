@@ -7,7 +7,7 @@ use Rattle.std.proofs.Math.Bool.{not}
 use mathlib.Core.List.{List}
 use Rattle.std.proofs.Math.Logic.{⊎_elim}
 use Rattle.std.proofs.Math.Dec.{eqb, leb}
-use Rattle.laws.specs.Choice.{if◌then◌else◌}
+use Rattle.std.specs.Prelude.{if◌then◌else◌}
 use Rattle.laws.specs.Range.{any_to}
 use Rattle.laws.specs.RangeLaws.{highest_same}
 use Rattle.laws.specs.BoolLaws.{both_left, miss_left, miss_right, bool_cases}

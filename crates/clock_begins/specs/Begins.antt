@@ -2,7 +2,7 @@
 use Rattle.std.specs.Prelude.{ℕ, ◌≤◌, ◌≡◌, List, Bool, true, false, leb, take}
 use Rattle.std.proofs.Common.{sym, ap₂, subst, ◌∙◌, leb-true}
 use Rattle.std.proofs.Math.Path.{ap}
-use Rattle.laws.specs.Choice.{if◌then◌else◌}
+use Rattle.std.specs.Prelude.{if◌then◌else◌}
 use Rattle.laws.specs.BoolLaws.{both_right}
 use Rattle.plan.specs.declared.Refusal.TheVariants.{Range, Foreign}
 use Rattle.plan_tables.specs.declared.PlanRecord.{PlanRecord}

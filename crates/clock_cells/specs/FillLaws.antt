@@ -7,7 +7,8 @@ use mathlib.Core.List.{List}
 use borrow.Author.Tests.{lt-ltb, le-ltb, ltb-true, ltb-false, leb-true, leb-false, lt-leb}
 use Rattle.std.proofs.Math.ListN.{get_or, get_or-eq_default}
 use Rattle.laws.specs.BoolLaws.{clash, bool_cases}
-use Rattle.laws.specs.Choice.{if◌then◌else◌, when}
+use Rattle.std.specs.Prelude.{if◌then◌else◌}
+use Rattle.laws.specs.Choice.{when}
 use Rattle.laws.specs.Sums.{sum}
 use Rattle.laws.specs.SumLaws as sums
 use Rattle.laws.specs.Rows.{rows}

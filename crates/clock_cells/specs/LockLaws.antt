@@ -11,7 +11,8 @@ use Rattle.std.proofs.lemmas.Bool.{eqb-false}
 use Rattle.std.proofs.Math.Dec.{eqb-suc-zero}
 use Rattle.std.proofs.Math.ListN.{get_or-eq_default}
 use Rattle.laws.specs.BoolLaws.{both, miss_left, miss_right, clash}
-use Rattle.laws.specs.Choice.{if◌then◌else◌, when}
+use Rattle.std.specs.Prelude.{if◌then◌else◌}
+use Rattle.laws.specs.Choice.{when}
 use Rattle.laws.specs.Sums.{sum, Each}
 use Rattle.laws.specs.SumLaws.{each_at_law}
 use Rattle.laws.specs.RangeLaws.{any_hit, none_of}

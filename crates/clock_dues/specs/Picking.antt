@@ -1,6 +1,6 @@
 -- What the picks of the clock say, by the list k that it keeps beside the board: x are the times, t the view of the board, ws the waits, hs the holders.
 use Rattle.std.specs.Prelude.{ℕ, ◌+◌, ◌-◌, ◌*◌, ◌<◌, max, ◌≡◌, List, Bool, ◌&&◌, ◌||◌, not, eqb, ltb, get_or}
-use Rattle.laws.specs.Choice.{if◌then◌else◌}
+use Rattle.std.specs.Prelude.{if◌then◌else◌}
 use Rattle.plan.specs.Limits.{max_locks, task_raise}
 use Rattle.plan.specs.declared.Policy.{Policy}
 use Rattle.plan.specs.declared.OverrunChoice.{OverrunChoice}

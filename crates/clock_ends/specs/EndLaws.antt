@@ -11,7 +11,7 @@ use Rattle.board_rules.specs.BoardLaws.{next_some}
 use Rattle.clock_nexts.specs.Nexts.{Nexts}
 use Rattle.clock_going.specs.Going.{timing_by, Going}
 use Rattle.std.proofs.lemmas.List.{get_or-replicate}
-use Rattle.laws.specs.Choice.{if◌then◌else◌}
+use Rattle.std.specs.Prelude.{if◌then◌else◌}
 use Rattle.laws.specs.BoolLaws.{bool_cases}
 use Rattle.clock_misses.specs.DueLaws.{quiet_until}
 use Rattle.clock_renews.specs.PartLaws.{nexts_later}

@@ -1,6 +1,6 @@
 -- The parts of the clock's lists before tick 0: x is the times of the plan, ls, os, ss the budgets, the overruns and the marks of the board, and k what is kept beside its arrays.
 use Rattle.std.specs.Prelude.{ℕ, ◌+◌, ◌-◌, ◌*◌, ◌<◌, ◌≤◌, ◌≡◌, List, Bool, false, ltb, length, get_or}
-use Rattle.laws.specs.Choice.{if◌then◌else◌}
+use Rattle.std.specs.Prelude.{if◌then◌else◌}
 use Rattle.plan.specs.Limits.{max_v, most_n}
 use Rattle.plan.specs.declared.OverrunChoice.{OverrunChoice}
 use Rattle.clock_sets.specs.Sets.{in_set}

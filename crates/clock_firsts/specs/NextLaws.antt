@@ -1,7 +1,7 @@
 -- The nexts before tick 0: all recur at it.
 use Rattle.std.specs.Prelude.{ℕ, ◌+◌, ◌-◌, ◌<◌, ◌≤◌, ◌≡◌, List, Bool, true, false, ltb, length, get_or}
 use Rattle.std.proofs.Common.{sym, subst, ◌∙◌, arith, lt-ltb, le-ltb}
-use Rattle.laws.specs.Choice.{if◌then◌else◌}
+use Rattle.std.specs.Prelude.{if◌then◌else◌}
 use Rattle.clock_nexts.specs.Nexts.{Least, places, nexts_length, never, period_at, next_at, at_tops, at_jobs, Wrote, Nexts}
 use Rattle.clock_nexts.specs.LeastLaws.{least_first}
 use Rattle.clock_firsts.specs.Firsts.{first_next, first_nexts}

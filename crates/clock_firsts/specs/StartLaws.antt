@@ -1,7 +1,7 @@
 -- Laws of the loops that write the ticks done and the supply's two sets.
 use Rattle.std.specs.Prelude.{ℕ, ◌+◌, ◌-◌, ◌*◌, ◌<◌, ◌≤◌, ◌≡◌, refl, List, Bool, false, eqb, ltb, length, get_or, set}
 use Rattle.std.proofs.Common.{sym, ap, subst, ◌∙◌, ⊎_elim, le_antisymm, arith, below_more, eq-eqb, ne_eqb, length-set, get_or-set_same, get_or-set_other}
-use Rattle.laws.specs.Choice.{if◌then◌else◌}
+use Rattle.std.specs.Prelude.{if◌then◌else◌}
 use Rattle.laws.specs.BoolLaws.{same_or_not}
 use Rattle.plan.specs.Limits.{max_v, most_n}
 use Rattle.plan.specs.declared.OverrunChoice.{OverrunChoice}

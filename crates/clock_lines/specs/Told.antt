@@ -2,7 +2,7 @@
 use Rattle.std.specs.Prelude.{ℕ, ◌+◌, ◌-◌, ◌≡◌, refl, List, [], ◌++◌, Bool, true, false, length, take, drop}
 use Rattle.std.proofs.Common.{ap, sym, ◌∙◌, add-zero, arith, length-append}
 use Rattle.std.proofs.lemmas.Bool.{false≢true}
-use Rattle.laws.specs.Choice.{if◌then◌else◌}
+use Rattle.std.specs.Prelude.{if◌then◌else◌}
 use Rattle.text_letters.specs.Wrote.{Wrote}
 use Rattle.text_told.proofs.AtLaws.{told_both}
 pub use Rattle.text_told.specs.At.{told_at, RoomAt}

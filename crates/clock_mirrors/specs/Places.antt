@@ -3,7 +3,8 @@ use Rattle.std.specs.Prelude.{ℕ, ◌+◌, ◌<◌, ◌≤◌, ◌≡◌, refl,
 use Rattle.std.proofs.Common.{sym, subst, ◌∙◌, ⊎_elim, arith, eq-zero-or-pos, ltb-true, ltb-false, eqb-true, lt-ltb, le-leb, eq-eqb, ne_eqb}
 use Rattle.std.proofs.Math.Path.{ap}
 use Rattle.std.proofs.lemmas.Bool.{eqb-false}
-use Rattle.laws.specs.Choice.{if◌then◌else◌, when}
+use Rattle.std.specs.Prelude.{if◌then◌else◌}
+use Rattle.laws.specs.Choice.{when}
 use Rattle.laws.specs.RangeLaws.{none_at}
 use Rattle.laws.specs.BoolLaws.{both, both_left, both_right, clash, bool_cases, same_or_not}
 use Rattle.laws_picks.specs.Picks.{lowest}

@@ -1,7 +1,7 @@
 -- What the list that the clock keeps tells, name by name; a write changes it at one name, and a board is mirrored where it says the same at every name.
 use Rattle.std.specs.Prelude.{ℕ, ◌+◌, ◌<◌, ◌≤◌, ◌≡◌, refl, List, Bool, ◌&&◌, not, eqb, ltb, get_or}
 use Rattle.std.proofs.Common.{sym, ap, subst, subst₂, ◌∙◌, ⊎_elim, eq-eqb, ne_eqb}
-use Rattle.laws.specs.Choice.{if◌then◌else◌}
+use Rattle.std.specs.Prelude.{if◌then◌else◌}
 use Rattle.laws.specs.Range.{any_to}
 use Rattle.laws.specs.BoolLaws.{same_or_not}
 use Rattle.laws_picks.specs.SameLaws.{any_same}

@@ -4,7 +4,8 @@ use Rattle.std.proofs.Common.{sym, ap₂, subst, ◌∙◌, ⊎_elim, eq-zero-or
 use Rattle.std.proofs.Math.Path.{ap}
 use mathlib.Core.List.{List, [], ◌∷◌, ◌++◌}
 use Rattle.std.proofs.Math.Decide.{dec_lt}
-use Rattle.laws.specs.Choice.{if◌then◌else◌, when}
+use Rattle.std.specs.Prelude.{if◌then◌else◌}
+use Rattle.laws.specs.Choice.{when}
 use Rattle.laws.specs.Range.{any_to, list_to, flat_to}
 use Rattle.laws.specs.RangeLaws.{none_of, list_length}
 use Rattle.laws.specs.BoolLaws.{both, clash, miss_left}

@@ -2,7 +2,7 @@
 -- from 0: the VCPUs v at i = v - 1, then the tasks by seat s at i = 15 + s; then by v a tick not above the next release of any of its tasks, its row; then one
 -- not above any next top, and one not above any row. x is the times of the plan, k the list that the clock keeps.
 use Rattle.std.specs.Prelude.{ℕ, ◌+◌, ◌-◌, ◌*◌, ◌<◌, ◌≤◌, ◌≡◌, List, [], Bool, true, ◌&&◌, eqb, ltb, length, get_or}
-use Rattle.laws.specs.Choice.{if◌then◌else◌}
+use Rattle.std.specs.Prelude.{if◌then◌else◌}
 use Rattle.laws.specs.Range.{any_to}
 use Rattle.laws_picks.specs.Picks.{lowest}
 use Rattle.plan.specs.Limits.{max_v, most_n, max_period}

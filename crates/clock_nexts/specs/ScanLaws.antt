@@ -1,7 +1,7 @@
 -- Laws of the loops that look for the least next.
 use Rattle.std.specs.Prelude.{ℕ, ◌+◌, ◌<◌, ◌≤◌, ◌≡◌, refl, Bool, true, false, ltb}
 use Rattle.std.proofs.Common.{sym, subst, le_antisymm, arith, below_more, ltb-true, ltb-false, lt-ltb, le-ltb}
-use Rattle.laws.specs.Choice.{if◌then◌else◌}
+use Rattle.std.specs.Prelude.{if◌then◌else◌}
 use Rattle.clock_nexts.specs.Nexts.{never, sooner, Soonest}
 
 -- THE SOONER of two

@@ -3,7 +3,7 @@ use Rattle.std.specs.Prelude.{ℕ, ◌+◌, ◌-◌, ◌/◌, ◌%◌, ◌<◌, 
 use Rattle.std.proofs.Common.{sym, ap, subst, ◌∙◌, ⊎_elim, eq-zero-or-pos, arith, eq-eqb, ne_eqb, eqb-true, ltb-false, le-ltb}
 use Rattle.std.proofs.Math.Bool.{and-true}
 use Rattle.std.proofs.lemmas.Bool.{eqb-false, not-true, not-false}
-use Rattle.laws.specs.Choice.{if◌then◌else◌}
+use Rattle.std.specs.Prelude.{if◌then◌else◌}
 use Rattle.laws.specs.Range.{all_to}
 use Rattle.laws.specs.RangeLaws.{any_at, any_hit, all_of, all_miss, miss_at, highest_le, highest_passes}
 use Rattle.laws.specs.BoolLaws.{both_left, both_right, miss_right, either_left, either_right, neither_left, neither_right, both_ways, bool_cases, clash, is_true, same_or_not}

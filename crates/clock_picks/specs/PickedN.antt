@@ -6,7 +6,7 @@ use Rattle.std.proofs.Common.{sym, ap₂, ◌∙◌, ⊎_elim, eq-zero-or-pos, a
 use Rattle.std.proofs.Math.Bool.{true, false}
 use borrow.Author.Tests.{eqb-true, ne_eqb, not-false}
 use Rattle.std.proofs.Math.Dec.{eqb}
-use Rattle.laws.specs.Choice.{if◌then◌else◌}
+use Rattle.std.specs.Prelude.{if◌then◌else◌}
 use Rattle.laws.specs.Range.{highest}
 use Rattle.laws.specs.RangeLaws.{highest_le, highest_passes, highest_zero, highest_same}
 use Rattle.laws.specs.BoolLaws.{both, clash, is_false, same_or_not}

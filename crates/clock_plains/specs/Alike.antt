@@ -4,7 +4,7 @@ use Rattle.std.proofs.Common.{sym, ◌∙◌, eq-zero-or-pos, arith, ltb-true, l
 use Rattle.std.proofs.Math.Path.{ap, ap₂}
 use Rattle.std.proofs.Math.Logic.{⊎_elim}
 use Rattle.std.proofs.Math.Dec.{eqb}
-use Rattle.laws.specs.Choice.{if◌then◌else◌}
+use Rattle.std.specs.Prelude.{if◌then◌else◌}
 use Rattle.laws.specs.BoolLaws.{bool_cases}
 use Rattle.laws_picks.specs.PickLaws.{top_le}
 use Rattle.plan.specs.Limits.{max_v, most_n, vcpu_raise}

@@ -1,7 +1,7 @@
 -- A plain turn stays plain: after some of its own ticks, and after ticks of another core's.
 use Rattle.std.specs.Prelude.{ℕ, suc, ◌+◌, ◌-◌, ◌*◌, ◌<◌, ◌≤◌, ◌≡◌, refl, Bool, true, false, ◌&&◌, ◌||◌, List, eqb, ltb, length, get_or, set}
 use Rattle.std.proofs.Common.{sym, ap, subst, ◌∙◌, ⊎_elim, eq-zero-or-pos, arith, eqb-true, eq-eqb, ne_eqb, lt-ltb, length-set}
-use Rattle.laws.specs.Choice.{if◌then◌else◌}
+use Rattle.std.specs.Prelude.{if◌then◌else◌}
 use Rattle.laws.specs.BoolLaws.{both_left, both_right, either_left, either_right, either_of, bool_cases, is_false}
 use Rattle.plan.specs.Limits.{max_v, most_n}
 use Rattle.board_rules.specs.declared.Board.{Board}

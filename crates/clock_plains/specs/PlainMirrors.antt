@@ -1,7 +1,7 @@
 -- Plain turns and the list that the clock keeps: of k such ticks the ticks done of the picked task are all that is to be written.
 use Rattle.std.specs.Prelude.{ℕ, ◌+◌, ◌-◌, ◌<◌, ◌≡◌, refl, Bool, false, ◌&&◌, List, eqb, get_or, set}
 use Rattle.std.proofs.Common.{sym, ap, subst, subst₂, ◌∙◌, ⊎_elim, eq-zero-or-pos, eq-or-lt_of_le, arith, eq-eqb, ne_eqb, lt-ltb, length-set, get_or-set_same, get_or-set_other}
-use Rattle.laws.specs.Choice.{if◌then◌else◌}
+use Rattle.std.specs.Prelude.{if◌then◌else◌}
 use Rattle.plan.specs.Limits.{max_locks}
 use Rattle.board_rules.specs.declared.Board.{Board}
 use Rattle.board_rules.specs.Board.{seat, wait_of}

@@ -4,7 +4,7 @@ use Rattle.std.specs.Prelude.{◌≡◌, refl, Bool, true, false, ◌&&◌, ◌|
 use Rattle.std.proofs.Common.{sym, subst, subst₂, ◌∙◌, ⊎_elim, arith, eqb-true, eq-eqb}
 use Rattle.std.proofs.Math.Path.{ap, ap₂}
 use mathlib.Core.List.{List, [], ◌∷◌}
-use Rattle.laws.specs.Choice.{if◌then◌else◌}
+use Rattle.std.specs.Prelude.{if◌then◌else◌}
 use Rattle.laws.specs.Sums.{Each, Pairs}
 use Rattle.laws.specs.BoolLaws.{both, both_left, both_right, either_of, is_false, clash}
 use Rattle.plan.specs.Limits.{max_v, most_n}

@@ -7,7 +7,7 @@ use mathlib.Core.List.{List, [], ◌∷◌, ◌++◌}
 use Rattle.std.proofs.lemmas.Bool.{eqb-false}
 use Rattle.std.proofs.Math.ListN.{set}
 use Rattle.std.proofs.lemmas.List.{set-get_or}
-use Rattle.laws.specs.Choice.{if◌then◌else◌}
+use Rattle.std.specs.Prelude.{if◌then◌else◌}
 use Rattle.laws.specs.Range.{flat_to}
 use Rattle.laws.specs.RangeLaws.{any_hit}
 use Rattle.laws.specs.BoolLaws.{both_left, both_right, miss_right, or_else, neither_left, neither_right, is_false, same_or_not}

@@ -1,7 +1,7 @@
 -- A core's turn that stays the same for some ticks: the same task uses each of them and nothing else happens to it, and the same VCPUs idle. What k such ticks
 -- come to is one subtraction for each of these VCPUs and one addition to the ticks done.
 use Rattle.std.specs.Prelude.{ℕ, ◌+◌, ◌-◌, ◌<◌, ◌≡◌, Bool, true, ◌||◌, List, eqb, length, set}
-use Rattle.laws.specs.Choice.{if◌then◌else◌}
+use Rattle.std.specs.Prelude.{if◌then◌else◌}
 use Rattle.board_rules.specs.declared.Board.{Board}
 use Rattle.board_rules.specs.Board.{seat, left_of, holds, next_of}
 use Rattle.board_events.specs.Events.{answers}

@@ -1,7 +1,7 @@
 -- What one set, and one or two stores, change of the list k.
 use Rattle.std.specs.Prelude.{ℕ, ◌+◌, ◌<◌, ◌≤◌, ◌≡◌, refl, Bool, true, false, not, ◌&&◌, ◌||◌, List, eqb, length, get_or, set}
 use Rattle.std.proofs.Common.{sym, ◌∙◌, arith, length-set, get_or-set_same, get_or-set_other}
-use Rattle.laws.specs.Choice.{if◌then◌else◌}
+use Rattle.std.specs.Prelude.{if◌then◌else◌}
 use Rattle.board_seats.specs.Seats.{seat}
 use Rattle.clock_sets.specs.Sets.{in_set, With, Without}
 use Rattle.clock_sets.specs.SetLaws.{some_task}

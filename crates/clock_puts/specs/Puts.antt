@@ -1,6 +1,6 @@
 -- What a write changes, beside the changes of `clock_marks`: from k to k'.
 use Rattle.std.specs.Prelude.{ℕ, ◌+◌, ◌<◌, ◌≤◌, ◌≡◌, List, Bool, eqb, length, get_or}
-use Rattle.laws.specs.Choice.{if◌then◌else◌}
+use Rattle.std.specs.Prelude.{if◌then◌else◌}
 use Rattle.plan.specs.Limits.{max_core}
 use Rattle.board_keeps.specs.Fair.{InV}
 use Rattle.clock_sets.specs.Sets.{in_set}

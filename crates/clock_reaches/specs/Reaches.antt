@@ -4,7 +4,8 @@ use Rattle.std.proofs.Math.Path.{sym}
 use Rattle.std.proofs.Common.{ap, ap₂, subst, ◌∙◌, inl, inr, eq-zero-or-pos, arith, eqb-true, eq-eqb, ne_eqb, ltb-true, lt-ltb, le-leb}
 use Rattle.std.proofs.Math.Logic.{⊎_elim}
 use Rattle.std.proofs.Math.Decide.{dec_lt}
-use Rattle.laws.specs.Choice.{if◌then◌else◌, when}
+use Rattle.std.specs.Prelude.{if◌then◌else◌}
+use Rattle.laws.specs.Choice.{when}
 use Rattle.laws.specs.BoolLaws.{both, both_left, both_right, clash}
 use Rattle.laws.specs.RangeLaws.{any_hit}
 use Rattle.laws_picks.specs.Picks.{lowest}

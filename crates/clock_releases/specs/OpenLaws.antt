@@ -2,7 +2,7 @@
 use Rattle.std.specs.Prelude.{ℕ, ◌+◌, ◌-◌, ◌*◌, ◌/◌, ◌%◌, ◌<◌, ◌≤◌, ◌≡◌, refl, List, Bool, true, false, ltb, get_or}
 use Rattle.std.proofs.Common.{sym, subst, subst₂, ◌∙◌, inl, inr, ⊎_elim, arith, ltb-false}
 use Rattle.std.proofs.Math.Path.{ap}
-use Rattle.laws.specs.Choice.{if◌then◌else◌}
+use Rattle.std.specs.Prelude.{if◌then◌else◌}
 use Rattle.laws.specs.BoolLaws.{both_left, missed as missed_right}
 use Rattle.plan.specs.Limits.{max_v, most_n}
 use Rattle.plan.specs.declared.Policy.{Policy}

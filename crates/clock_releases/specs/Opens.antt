@@ -1,7 +1,7 @@
 -- How a tick opens: the tops that are due, then, where no job is missed, the releases. x is the times of the plan, k the list that the clock keeps, y when each
 -- recurs next, b the board and a the buffer into which is told behind its first `at` bytes; a prime is on what is there afterwards.
 use Rattle.std.specs.Prelude.{ℕ, ◌+◌, ◌-◌, ◌*◌, ◌<◌, ◌≤◌, ◌≡◌, List, Bool, true, ◌⊎◌, ltb, length, get_or}
-use Rattle.laws.specs.Choice.{if◌then◌else◌}
+use Rattle.std.specs.Prelude.{if◌then◌else◌}
 use Rattle.plan.specs.Limits.{max_v, most_n}
 use Rattle.plan.specs.declared.Policy.{Policy}
 use Rattle.plan.specs.declared.OverrunChoice.{OverrunChoice}

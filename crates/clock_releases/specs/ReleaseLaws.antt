@@ -2,7 +2,8 @@
 use Rattle.std.specs.Prelude.{ℕ, ◌+◌, ◌-◌, ◌*◌, ◌<◌, ◌≤◌, ◌≡◌, refl, List, Bool, true, false, ltb, leb, get_or, set}
 use Rattle.std.proofs.Common.{sym, ap, subst, subst₂, ◌∙◌, arith, le_antisymm, le-leb}
 use Rattle.std.proofs.Math.Decide.{dec_le}
-use Rattle.laws.specs.Choice.{if◌then◌else◌, when}
+use Rattle.std.specs.Prelude.{if◌then◌else◌}
+use Rattle.laws.specs.Choice.{when}
 use Rattle.laws.specs.BoolLaws.{both}
 use Rattle.plan.specs.Limits.{max_v, most_n}
 use Rattle.board_seats.specs.Seats.{is_v, is_n, seat}

@@ -1,7 +1,7 @@
 -- Laws of the walk over the VCPUs that recur, from the lowest up, which writes their nexts.
 use Rattle.std.specs.Prelude.{ℕ, ◌+◌, ◌-◌, ◌<◌, ◌≤◌, ◌≡◌, refl, Bool, true, false, ◌&&◌, not, List, eqb, ltb, length, get_or, set}
 use Rattle.std.proofs.Common.{sym, ap, subst, ◌∙◌, ⊎_elim, eq-zero-or-pos, arith, eq-eqb, ne_eqb, ltb-true, ltb-false, length-set, get_or-set_same, get_or-set_other}
-use Rattle.laws.specs.Choice.{if◌then◌else◌}
+use Rattle.std.specs.Prelude.{if◌then◌else◌}
 use Rattle.laws.specs.BoolLaws.{miss_right, clash, same_or_not}
 use Rattle.laws_picks.specs.Picks.{lowest}
 use Rattle.laws_picks.specs.PickLaws.{lowest_le, lowest_passes, lowest_zero}

@@ -1,6 +1,6 @@
 -- The plan on a clock: request (i), sentence by sentence. Every lock and budget step is an event of the board, so a run is a list of events.
 use Rattle.std.specs.Prelude.{ℕ, zero, suc, ◌+◌, ◌-◌, ◌*◌, ◌%◌, List, [], ◌∷◌, ◌++◌, Bool, true, false, ◌&&◌, not, eqb, ltb, get_or, set}
-use Rattle.laws.specs.Choice.{if◌then◌else◌}
+use Rattle.std.specs.Prelude.{if◌then◌else◌}
 use Rattle.laws.specs.Range.{any_to, list_to, flat_to}
 use Rattle.laws_picks.specs.Picks.{lowest, top_of}
 use Rattle.plan.specs.Limits.{max_v, most_n}

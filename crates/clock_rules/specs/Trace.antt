@@ -1,6 +1,6 @@
 -- What `clock` prints: the run's events with their ticks and answers, and how it ended. Every two lists of bytes have their text.
 use Rattle.std.specs.Prelude.{ℕ, zero, suc, ◌+◌, List, [], ◌∷◌, ◌++◌, Bool, true, false, ◌||◌, ltb, length}
-use Rattle.laws.specs.Choice.{if◌then◌else◌}
+use Rattle.std.specs.Prelude.{if◌then◌else◌}
 use Rattle.laws.specs.Bytes.{pieces, is_nil}
 use Rattle.laws.specs.Decimal.{decimal}
 use Rattle.plan.specs.Limits.{max_input, tab, lf}

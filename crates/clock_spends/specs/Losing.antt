@@ -1,7 +1,7 @@
 -- A walk over a set of VCPUs, from the lowest up, each of which loses some ticks.
 use Rattle.std.specs.Prelude.{ℕ, ◌-◌, ◌<◌, ◌≤◌, ◌≡◌, refl, Bool, true, false, ◌&&◌, ◌||◌, not, List, eqb, length, get_or, set}
 use Rattle.std.proofs.Common.{sym, ap, ap₂, subst, ◌∙◌, ⊎_elim, eq-zero-or-pos, arith, eq-eqb, ne_eqb, length-set, get_or-set_same, get_or-set_other}
-use Rattle.laws.specs.Choice.{if◌then◌else◌}
+use Rattle.std.specs.Prelude.{if◌then◌else◌}
 use Rattle.laws.specs.BoolLaws.{both, either_left, both_left, miss_right, same_or_not}
 use Rattle.laws_picks.specs.Picks.{lowest}
 use Rattle.plan.specs.declared.Policy.{Policy}

@@ -4,7 +4,8 @@ use Rattle.std.proofs.Math.Path.{refl}
 use Rattle.std.proofs.Common.{sym, ap, ap₂, subst, subst₂, ◌∙◌, eq-zero-or-pos, arith, eq-eqb, ne_eqb, le-leb, length-set, get_or-set_same, get_or-set_other}
 use Rattle.std.proofs.Math.Logic.{⊎_elim}
 use Rattle.std.proofs.lemmas.Bool.{not-true}
-use Rattle.laws.specs.Choice.{if◌then◌else◌, when}
+use Rattle.std.specs.Prelude.{if◌then◌else◌}
+use Rattle.laws.specs.Choice.{when}
 use Rattle.laws.specs.RangeLaws.{any_hit}
 use Rattle.laws.specs.BoolLaws.{both_right, is_false, clash, same_or_not}
 use Rattle.plan.specs.Limits.{max_v, most_n}

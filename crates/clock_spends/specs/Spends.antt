@@ -1,6 +1,6 @@
 -- What is known of the cores' turns beside the clock's lists: for how many ticks each stays the same, and what is spent of them.
 use Rattle.std.specs.Prelude.{ℕ, ◌+◌, ◌-◌, ◌<◌, ◌≤◌, ◌≡◌, Bool, false, List, ◌⊎◌, eqb, length, get_or, set}
-use Rattle.laws.specs.Choice.{if◌then◌else◌}
+use Rattle.std.specs.Prelude.{if◌then◌else◌}
 use Rattle.plan.specs.declared.Policy.{Policy}
 use Rattle.board_rules.specs.declared.Board.{Board}
 use Rattle.board_keeps.specs.Fair.{InV}

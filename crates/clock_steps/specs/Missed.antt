@@ -1,7 +1,7 @@
 -- Whom a release finds unfinished: nobody, or the lowest v and in it the lowest n.
 use Rattle.std.specs.Prelude.{ℕ, ◌%◌, ◌<◌, ◌≡◌, refl, Bool, true, false, List, ◌↔◌, eqb}
 use Rattle.std.proofs.Common.{sym, ap, subst, ◌∙◌, inl, inr, ⊎_elim, arith, eq-zero-or-pos, eqb-true, eq-eqb, ne_eqb, ltb-true, lt-ltb}
-use Rattle.laws.specs.Choice.{if◌then◌else◌}
+use Rattle.std.specs.Prelude.{if◌then◌else◌}
 use Rattle.laws.specs.Range.{any_to}
 use Rattle.laws.specs.RangeLaws.{none_at, any_hit}
 use Rattle.laws.specs.BoolLaws.{both, both_left, both_right, clash}

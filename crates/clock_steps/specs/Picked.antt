@@ -3,7 +3,7 @@ use Rattle.std.specs.Prelude.{ℕ, ◌<◌, ◌≡◌, refl, true, false, not, L
 use Rattle.std.proofs.Math.Path.{subst}
 use Rattle.std.proofs.Common.{⊎_elim, arith}
 use borrow.Author.Tests.{eqb-true, eq-eqb, ne_eqb, ltb-true, not-true}
-use Rattle.laws.specs.Choice.{if◌then◌else◌}
+use Rattle.std.specs.Prelude.{if◌then◌else◌}
 use Rattle.laws.specs.BoolLaws.{both_left, both_right, same_or_not}
 use Rattle.laws_picks.specs.PickLaws.{top_most}
 use Rattle.plan.specs.Limits.{max_v, most_n}

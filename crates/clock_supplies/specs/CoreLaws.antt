@@ -1,7 +1,7 @@
 -- Laws of the sets of the cores' VCPUs, of the supply's two sets, and of a list that is emptied.
 use Rattle.std.specs.Prelude.{ℕ, ◌+◌, ◌<◌, ◌≤◌, ◌≡◌, refl, Bool, List, eqb, length, get_or, set}
 use Rattle.std.proofs.Common.{◌∙◌, ⊎_elim, arith, length-set, get_or-set_same, get_or-set_other, eq-eqb, ne_eqb}
-use Rattle.laws.specs.Choice.{if◌then◌else◌}
+use Rattle.std.specs.Prelude.{if◌then◌else◌}
 use Rattle.laws.specs.BoolLaws.{same_or_not}
 use Rattle.clock_sets.specs.Sets.{in_set}
 use Rattle.clock_times.specs.Times.{core_cell}

@@ -7,7 +7,7 @@ use Rattle.std.proofs.Math.Logic.{⊎_elim}
 use Rattle.std.proofs.Math.Decide.{dec_le}
 use borrow.Author.Tests.{leb-true, eqb-true, ne_eqb, eq-eqb}
 use Rattle.std.proofs.Math.Dec.{leb}
-use Rattle.laws.specs.Choice.{if◌then◌else◌}
+use Rattle.std.specs.Prelude.{if◌then◌else◌}
 use Rattle.laws.specs.Range.{highest}
 use Rattle.laws.specs.RangeLaws.{highest_le, highest_passes}
 use Rattle.laws.specs.BoolLaws.{both_left, both_right, bool_cases}

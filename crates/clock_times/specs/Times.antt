@@ -1,6 +1,7 @@
 -- The times of a plan in one list of numbers x, so that a tick scans no table: what the clock asks of a plan beside the view of the board.
 use Rattle.std.specs.Prelude.{ℕ, ◌+◌, ◌-◌, ◌*◌, ◌<◌, ◌≤◌, ◌≡◌, List, Bool, true, false, ◌&&◌, eqb, ltb, length, get_or}
-use Rattle.laws.specs.Choice.{if◌then◌else◌, when}
+use Rattle.std.specs.Prelude.{if◌then◌else◌}
+use Rattle.laws.specs.Choice.{when}
 use Rattle.laws_picks.specs.Picks.{lowest}
 use Rattle.plan.specs.Limits.{max_v, most_n, max_locks, max_period}
 use Rattle.board_seats.specs.Seats.{is_v, is_n, seat}

@@ -4,7 +4,7 @@ use Rattle.std.proofs.Math.Path.{sym, ap, subst}
 use Rattle.std.proofs.Common.{◌∙◌, append_assoc, append-nil, arith, le_antisymm, add-one}
 use Rattle.std.proofs.Math.Decide.{dec_le}
 use Rattle.laws.specs.Range.{flat_to}
-use Rattle.laws.specs.Choice.{if◌then◌else◌}
+use Rattle.std.specs.Prelude.{if◌then◌else◌}
 use Rattle.plan.specs.Limits.{max_v}
 use Rattle.plan.specs.declared.OverrunChoice.{OverrunChoice}
 use Rattle.board_rules.specs.Facts.{Facts}

@@ -1,7 +1,7 @@
 -- The tops of a tick that are due. x is the times of the plan, k the list that the clock keeps, y when each recurs next, b the board and a the buffer into which is told
 -- behind its first `at` bytes; a prime is on what is there afterwards.
 use Rattle.std.specs.Prelude.{ℕ, ◌+◌, ◌-◌, ◌<◌, ◌≤◌, ◌≡◌, List, [], ◌∷◌, Bool, true, ltb, length, get_or}
-use Rattle.laws.specs.Choice.{if◌then◌else◌}
+use Rattle.std.specs.Prelude.{if◌then◌else◌}
 use Rattle.laws.specs.Range.{flat_to}
 use Rattle.plan.specs.Limits.{max_v}
 use Rattle.plan.specs.declared.OverrunChoice.{OverrunChoice}

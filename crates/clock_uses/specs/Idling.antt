@@ -7,7 +7,7 @@ use mathlib.Core.List.{List, [], ◌∷◌, ◌++◌, append_assoc, append-nil}
 use Rattle.std.proofs.Math.Bool.{false}
 use Rattle.std.proofs.Math.Logic.{⊎_elim}
 use Rattle.std.proofs.lemmas.Bool.{eqb-false, not-true}
-use Rattle.laws.specs.Choice.{if◌then◌else◌}
+use Rattle.std.specs.Prelude.{if◌then◌else◌}
 use Rattle.laws.specs.Range.{flat_to}
 use Rattle.laws.specs.BoolLaws.{both, both_left, both_right, miss_right, same_or_not, clash, is_false, both_ways}
 use Rattle.laws_picks.specs.Picks.{lowest}

@@ -1,6 +1,6 @@
 -- An answer as three numbers, its kind, its ticks and its rounds; and the answer that three numbers say.
 use Rattle.std.specs.Prelude.{ℕ, eqb}
-use Rattle.laws.specs.Choice.{if◌then◌else◌}
+use Rattle.std.specs.Prelude.{if◌then◌else◌}
 use Rattle.search.specs.declared.Answer.{Answer}
 use Rattle.search.specs.declared.Answer.TheVariants.{Fits, Late}
 use Rattle.search.specs.Search.{rounds}

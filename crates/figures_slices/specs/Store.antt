@@ -1,6 +1,6 @@
 -- The answers of a whole plan, worked out once into number slices: three numbers for each VCPU, each lock place and each task.
 use Rattle.std.specs.Prelude.{ℕ, ◌-◌, ◌*◌, List, [], ◌∷◌, ◌++◌, length}
-use Rattle.laws.specs.Choice.{if◌then◌else◌}
+use Rattle.std.specs.Prelude.{if◌then◌else◌}
 use Rattle.laws.specs.Sums.{flat}
 use Rattle.search.specs.declared.Answer.{Answer}
 use Rattle.search.specs.Search.{rounds}

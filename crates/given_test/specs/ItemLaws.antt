@@ -7,7 +7,7 @@ use Rattle.std.proofs.Math.Bool.{false}
 use native.Mathlib.Omega.{arith}
 use Rattle.std.proofs.Math.Dec.{eqb}
 use borrow.Author.Tests.{ne_eqb}
-use Rattle.laws.specs.Choice.{if◌then◌else◌}
+use Rattle.std.specs.Prelude.{if◌then◌else◌}
 use Rattle.laws.specs.Rows.{rows}
 use Rattle.plan.specs.declared.Kind.TheVariants.{PlanLine, TaskLine, LockLine, EndLine}
 use Rattle.plan.specs.Line.{Item}

@@ -1,6 +1,6 @@
 -- What `verdict` prints: the listing of an accepted plan, or one line that refuses. Every list of bytes has its text.
 use Rattle.std.specs.Prelude.{ℕ, ◌+◌, List, [], ◌∷◌, ◌++◌, true, false, ◌&&◌, eqb, ltb, length}
-use Rattle.laws.specs.Choice.{if◌then◌else◌}
+use Rattle.std.specs.Prelude.{if◌then◌else◌}
 use Rattle.laws.specs.Sums.{flat, only}
 use Rattle.laws.specs.Range.{flat_to}
 use Rattle.laws.specs.Bytes.{joined}

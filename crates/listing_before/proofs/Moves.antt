@@ -5,7 +5,7 @@ use Rattle.std.proofs.Math.Path.{refl, ap, ap₂}
 use Rattle.std.proofs.Common.{◌∙◌, ⊎_elim}
 use mathlib.Core.List.{[], ◌∷◌, ◌++◌, Memᴰ}
 use Rattle.laws.specs.BoolLaws.{both, both_left, both_right, is_false, clash}
-use Rattle.laws.specs.Choice.{if◌then◌else◌}
+use Rattle.std.specs.Prelude.{if◌then◌else◌}
 use Rattle.laws.specs.Sums.{all, flat}
 use Rattle.laws.specs.SumLaws.{all_each, each_all, all_same_on, flat_same_on, each_map, members}
 use Rattle.laws.specs.Decimal.{decimal}

@@ -1,6 +1,7 @@
 -- LOCAL BLOCKING BEFORE a ceiling equal to the task counted, and what `verdict` printed by it. These definitions serve what compares the two (FormerLaws, Moves, Cases, clock_worked/Ceiling), and nothing else.
 use Rattle.std.specs.Prelude.{ℕ, ◌+◌, ◌*◌, ◌<◌, ◌≡◌, Bool, true, false, ◌&&◌, List, [], ◌∷◌, ◌++◌, ltb}
-use Rattle.laws.specs.Choice.{when, if◌then◌else◌}
+use Rattle.std.specs.Prelude.{if◌then◌else◌}
+use Rattle.laws.specs.Choice.{when}
 use Rattle.laws.specs.Sums.{up, sum, greatest, all, flat, Has}
 use Rattle.laws.specs.Decimal.{decimal}
 use Rattle.search.specs.Search.{solve}

@@ -1,6 +1,6 @@
 -- The texts of the lines that a listing is made of, and the fields that an answer gives.
 use Rattle.std.specs.Prelude.{ℕ, List, [], ◌∷◌, Bool, eqb}
-use Rattle.laws.specs.Choice.{if◌then◌else◌}
+use Rattle.std.specs.Prelude.{if◌then◌else◌}
 use Rattle.laws.specs.Decimal.{decimal}
 use Rattle.search.specs.declared.Answer.{Answer}
 use Rattle.search.specs.Search.{rounds}

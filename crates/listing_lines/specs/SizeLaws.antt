@@ -1,7 +1,7 @@
 -- The sizes of lines: the first word's and the rest's.
 use Rattle.std.specs.Prelude.{ℕ, ◌+◌, ◌≤◌, ◌≡◌, refl, List, ◌∷◌, Bool, true, false, eqb, length}
 use Rattle.std.proofs.Common.{ap, sym, ◌∙◌, arith, length-append}
-use Rattle.laws.specs.Choice.{if◌then◌else◌}
+use Rattle.std.specs.Prelude.{if◌then◌else◌}
 use Rattle.listing.specs.Listing.{w_fits, w_late, w_no_wait, w_held, line}
 use Rattle.text_letters.specs.Wrote.{Sized}
 use Rattle.text_letters.specs.Tabbed.{rest}

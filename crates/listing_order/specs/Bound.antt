@@ -7,7 +7,7 @@ use Rattle.std.proofs.Math.Option.{Option}
 use Rattle.std.proofs.Common.{le_trans, ltb-false}
 use native.Mathlib.Omega.{arith}
 use Rattle.std.proofs.Math.ListN.{length, length-append}
-use Rattle.laws.specs.Choice.{if◌then◌else◌}
+use Rattle.std.specs.Prelude.{if◌then◌else◌}
 use Rattle.laws.specs.Sums.{sum, flat, Each}
 use Rattle.laws.specs.SumLaws.{sum_rises_on, sum_bound, each_map}
 use Rattle.laws.specs.Bytes.{pieces, on_first, is_nil}

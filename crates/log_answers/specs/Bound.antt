@@ -13,7 +13,7 @@ use Rattle.std.proofs.Math.ListN.{length, length-append}
 use Rattle.laws.specs.BoolLaws.{both_left}
 use Rattle.laws.specs.Bytes.{pieces, joined, same}
 use Rattle.laws.specs.BytesLaws.{joined_pieces, same_equal}
-use Rattle.laws.specs.Choice.{if◌then◌else◌}
+use Rattle.std.specs.Prelude.{if◌then◌else◌}
 use Rattle.laws.specs.Fields.{before, count, fields_to}
 use Rattle.laws.specs.RangeLaws.{highest_le}
 use Rattle.laws.specs.Sums.{flat}

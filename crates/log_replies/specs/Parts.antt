@@ -1,6 +1,6 @@
 -- An answer taken apart: how many numbers its line has, which of the lines with as many it is, and the numbers; and its text from these.
 use Rattle.std.specs.Prelude.{ℕ, List, [], ◌∷◌, eqb}
-use Rattle.laws.specs.Choice.{if◌then◌else◌}
+use Rattle.std.specs.Prelude.{if◌then◌else◌}
 use Rattle.laws.specs.Decimal.{decimal}
 use Rattle.plan.specs.declared.Refusal.TheVariants.{Shape}
 use Rattle.plan.specs.Refusals.{number_of}

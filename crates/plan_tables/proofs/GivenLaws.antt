@@ -5,7 +5,7 @@ use Rattle.std.proofs.Common.{ap, ap₂, sym, ◌∙◌, arith, le-div_iff_mul-l
 use mathlib.Core.List.{List, [], ◌∷◌, ◌++◌, Memᴰ}
 use Rattle.std.proofs.lemmas.Bool.{false≢true}
 use Rattle.laws.specs.BoolLaws.{both, both_left, both_right, both_ways, both_exactly, leb_exactly}
-use Rattle.laws.specs.Choice.{if◌then◌else◌}
+use Rattle.std.specs.Prelude.{if◌then◌else◌}
 use Rattle.laws.specs.Sums.{all, flat, Each, Chain, Some}
 use Rattle.laws.specs.SumLaws.{each_all, each_map, each_flat}
 use Rattle.laws.specs.Rows.{rows}

@@ -1,6 +1,6 @@
 -- Tables that an accepted plan gives, the plan in them, and the test for 9.
 use Rattle.std.specs.Prelude.{ℕ, ◌+◌, ◌-◌, ◌*◌, ◌≡◌, List, [], ◌∷◌, Bool, true, false, ◌&&◌, eqb, leb, length}
-use Rattle.laws.specs.Choice.{if◌then◌else◌}
+use Rattle.std.specs.Prelude.{if◌then◌else◌}
 use Rattle.laws.specs.Sums.{first, all}
 use Rattle.laws.specs.Rows.{rows}
 use Rattle.plan.specs.declared.Fault.{Fault}

@@ -2,7 +2,7 @@
 use Rattle.std.specs.Prelude.{ℕ, ◌*◌, ◌≤◌, ◌≡◌, refl, List, true, length}
 use Rattle.std.proofs.Common.{ap, sym, ◌∙◌, arith}
 use Rattle.laws.specs.Bytes.{pieces}
-use Rattle.laws.specs.Choice.{if◌then◌else◌}
+use Rattle.std.specs.Prelude.{if◌then◌else◌}
 use Rattle.plan.specs.Limits.{lf, max_v, max_guest, max_m, most_tasks}
 use Rattle.plan.specs.Refusals.{no_room}
 use Rattle.plan.specs.Plan.{Plan}

@@ -7,7 +7,7 @@ use Rattle.std.proofs.Math.Logic.{inr, ⊎_elim}
 use Rattle.std.proofs.Math.Bool.{true, false}
 use Rattle.laws.specs.Sums.{flat, Each}
 use Rattle.laws.specs.SumLaws.{each_map}
-use Rattle.laws.specs.Choice.{if◌then◌else◌}
+use Rattle.std.specs.Prelude.{if◌then◌else◌}
 use Rattle.plan.specs.declared.Refusal.TheVariants.{Room}
 use Rattle.plan.specs.declared.Complaint.{Complaint}
 use Rattle.plan.specs.Refusals.{no_room}

@@ -1,6 +1,6 @@
 -- Reading a plan into lent tables: the answer, and the tables after it, for every list of bytes and all tables.
 use Rattle.std.specs.Prelude.{ℕ, List}
-use Rattle.laws.specs.Choice.{if◌then◌else◌}
+use Rattle.std.specs.Prelude.{if◌then◌else◌}
 use Rattle.plan.specs.Refusals.{no_room}
 use Rattle.plan.specs.Reading.{Reading, Accepts, Refuses, reading}
 use Rattle.plan_tables.specs.Layout.{Tables, filled, record_of}

@@ -2,7 +2,7 @@
 use Rattle.std.specs.Prelude.{ℕ, ◌≡◌, List}
 use Rattle.std.proofs.Math.Path.{ap}
 use Rattle.plan.specs.Limits.{most_tasks}
-use Rattle.laws.specs.Choice.{if◌then◌else◌}
+use Rattle.std.specs.Prelude.{if◌then◌else◌}
 use Rattle.plan.specs.declared.Refusal.TheVariants.{Range, Foreign}
 use Rattle.plan.specs.Plan.{Plan}
 use Rattle.plan_tables.specs.declared.PlanRecord.{PlanRecord}

@@ -1,6 +1,6 @@
 -- The fields of a line after its first, and a number or a word as a field.
 use Rattle.std.specs.Prelude.{ℕ, List, [], ◌∷◌, ◌++◌, Bool}
-use Rattle.laws.specs.Choice.{if◌then◌else◌}
+use Rattle.std.specs.Prelude.{if◌then◌else◌}
 use Rattle.laws.specs.Decimal.{decimal}
 use Rattle.plan.specs.Limits.{tab, lf}
 

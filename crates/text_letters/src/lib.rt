@@ -2,7 +2,7 @@
 #![tactic(auto)]
 
 ghost use Rattle.std.specs.Prelude.{◌≡◌, [], ◌∷◌, ◌++◌, ◌+◌, ◌≤◌, ◌%◌, length};
-ghost use Rattle.laws.specs.Choice.{if◌then◌else◌};
+ghost use Rattle.std.specs.Prelude.{if◌then◌else◌};
 ghost use Rattle.laws.specs.Decimal.{decimal};
 ghost use Rattle.text_letters.specs.Wrote.{Wrote, Sized};
 ghost use Rattle.text_letters.specs.Tabbed.{tabbed, rest, number_or};

@@ -1,6 +1,6 @@
 -- A line of an input, from a place on.
 use Rattle.std.specs.Prelude.{ℕ, ◌+◌, List, Bool, eqb, ltb, length, drop}
-use Rattle.laws.specs.Choice.{if◌then◌else◌}
+use Rattle.std.specs.Prelude.{if◌then◌else◌}
 use Rattle.laws.specs.Fields.{before}
 use Rattle.plan.specs.Limits.{lf}
 use Rattle.text_lines.specs.Said.{said_of}

@@ -1,7 +1,7 @@
 use Prim.Native.Nat.{ℕ}
 use mathlib.Core.Path.{◌≡◌, refl, sym, ◌∙◌}
 use mathlib.Core.Bool.{Bool, true, false}
-use Rattle.laws.specs.Choice.{if◌then◌else◌}
+use Rattle.std.specs.Prelude.{if◌then◌else◌}
 use Rattle.board_seats.specs.Seats.{local_waiter}
 use Rattle.board_walks.specs.Walks.{passes}
 use Rattle.board_walks.specs.WalkLaws.{under_all}
