@@ -159,4 +159,4 @@ module _ {F : Facts} (f : Fair F) (s : Small F) where
   lines_small t l {b} h g (e ∷ es) a =
       let q = told_low h g e a.0 in
       let x = (step F b e).answer in
-      omega (arith, length-append (event_line t e x) (lines_at F t (step F b e).board es), event_line_bound t e x l q.event q.answer, lines_small t l (step_shaped F e h) (step_keeps f h g e) es a.1)
+      omega (arith, length-append (event_line t e x) (lines_at F t (step F b e).board es), event_line_bound t e x l q.event q.answer, lines_small t l {b = (step F b e).board} (step_shaped F e h) (step_keeps f h g e) es a.1)
