@@ -1,5 +1,5 @@
 -- What a write changes of the list that the clock keeps: from k to k'.
-use Rattle.std.specs.Prelude.{ℕ, ◌+◌, ◌<◌, ◌≡◌, List, Bool, true, false, not, eqb, length, get_or}
+use Rattle.std.specs.Prelude.{ℕ, ◌+◌, ◌<◌, ◌≡◌, List, Bool, not, eqb, length, get_or}
 use Rattle.laws.specs.Choice.{if◌then◌else◌}
 use Rattle.laws.specs.Range.{any_to}
 use Rattle.plan.specs.Limits.{most_n}

@@ -1,6 +1,6 @@
 -- What the clock keeps beside the board's arrays, in one list of numbers k: sets of VCPUs and of tasks, so that a pick walks over nobody, what each task
 -- holds, the ticks that each job has done, and how many of its sections have ended.
-use Rattle.std.specs.Prelude.{ℕ, ◌+◌, ◌-◌, ◌*◌, ◌<◌, ◌≤◌, ◌≡◌, List, Bool, false, ◌&&◌, not, eqb, ltb, length, get_or}
+use Rattle.std.specs.Prelude.{ℕ, ◌+◌, ◌*◌, ◌<◌, ◌≤◌, ◌≡◌, List, Bool, false, ◌&&◌, not, eqb, ltb, length, get_or}
 use Rattle.laws.specs.Choice.{if◌then◌else◌}
 use Rattle.plan.specs.Limits.{max_v, max_m, most_n, max_locks, max_core}
 use Rattle.plan.specs.declared.OverrunChoice.{OverrunChoice}

@@ -1,5 +1,5 @@
 -- The VCPUs that recur, gathered into a set.
-use Rattle.std.specs.Prelude.{ℕ, ◌+◌, ◌-◌, ◌<◌, ◌≤◌, ◌≡◌, refl, List, Bool, true, false, ◌||◌, eqb, ltb, get_or}
+use Rattle.std.specs.Prelude.{ℕ, ◌+◌, ◌-◌, ◌<◌, ◌≤◌, ◌≡◌, refl, List, true, eqb, ltb, get_or}
 use Rattle.std.proofs.Common.{ap, subst, ◌∙◌, ⊎_elim, arith, eq-eqb, lt-ltb}
 use Rattle.laws.specs.BoolLaws.{either_left, either_right, same_or_not}
 use Rattle.board_keeps.specs.Fair.{InV}

@@ -1,0 +1,32 @@
+-- `clock_lines::missed_line` meets its contract.
+use borrow.Author.Rules.{rules}
+use mathlib.Core.List.{[], ◌∷◌}
+use Rattle.laws.specs.Decimal.{decimal}
+use Rattle.listing_lines.specs.LineLaws.{line_three}
+use Rattle.clock_rules.specs.Trace.{w_missed}
+use Rattle.text_letters.specs.WroteLaws.{first_fits, ends, rest_fits, both_fit, both_wrote}
+use Rattle.clock_lines.proofs.missed_line.Goals as goal
+
+pub word_two-k-requires : goal.word_two-k-requires
+word_two-k-requires c =
+    first_fits (line_three w_missed (decimal c.args.t) (decimal c.args.v) (decimal c.args.n ∷ [])) c.requires
+
+pub slice_bounds-last_rest-count : goal.slice_bounds-last_rest-count
+slice_bounds-last_rest-count c =
+    let h = ends (line_three w_missed (decimal c.args.t) (decimal c.args.v) (decimal c.args.n ∷ [])) c.requires c.word_two-k.ensures in search rules
+
+pub slice_bounds-last_rest-start : goal.slice_bounds-last_rest-start
+slice_bounds-last_rest-start c =
+    let h = ends (line_three w_missed (decimal c.args.t) (decimal c.args.v) (decimal c.args.n ∷ [])) c.requires c.word_two-k.ensures in search rules
+
+pub last_rest-requires : goal.last_rest-requires
+last_rest-requires c =
+    rest_fits (line_three w_missed (decimal c.args.t) (decimal c.args.v) (decimal c.args.n ∷ [])) c.requires c.word_two-k.ensures
+
+pub overflow_add-result : goal.overflow_add-result
+overflow_add-result c =
+    let h = both_fit (line_three w_missed (decimal c.args.t) (decimal c.args.v) (decimal c.args.n ∷ [])) c.requires c.word_two-k.ensures c.last_rest.ensures in search rules
+
+pub returns : goal.returns
+returns c =
+    both_wrote (line_three w_missed (decimal c.args.t) (decimal c.args.v) (decimal c.args.n ∷ [])) c.requires c.word_two-k.ensures c.last_rest.ensures
