@@ -5,7 +5,6 @@ use Rattle.std.proofs.Common.{◌∙◌, ap, inl, inr, arith, le-leb}
 use Rattle.std.proofs.Math.Bool.{true}
 use Rattle.std.proofs.Math.Logic.{⊎_elim}
 use Rattle.std.proofs.lemmas.Bool.{lt-leb}
-use Rattle.laws.specs.Choice.{when}
 use Rattle.laws.specs.Range.{highest}
 use Rattle.laws.specs.RangeLaws.{none_of, all_of, all_miss, highest_is, highest_zero}
 use Rattle.laws.specs.BoolLaws.{both, bool_cases, is_false, clash, same_or_not}
