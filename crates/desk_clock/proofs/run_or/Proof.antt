@@ -1,6 +1,6 @@
 -- `run_or` meets its contract.
 use borrow.Author.Rules.{rules}
-use Rattle.desk_runs.specs.Ran.{ran_accepted, ran_refused}
+use Rattle.desk_runs.proofs.RanLaws.{ran_accepted, ran_refused}
 use Rattle.desk_clock.proofs.run_or.Statement.{statement}
 use Rattle.desk_clock.proofs.run_or.Tie as tie
 
