@@ -23,7 +23,8 @@ use Rattle.figures.specs.declared.TaskAnswer.{TaskAnswer}
 use Rattle.figures.specs.declared.TaskAnswer.TheVariants.{Searched, NoWait, Held}
 use Rattle.figures.specs.Answers.{vcpu_answer, wait_answer, task_answer, is_fits, task_fits, all_fit, remote_waits}
 use Rattle.listing.specs.Listing.{w_verdict, line, vcpu_line, wait_line, wait_lines, task_line, task_lines, rising, all_line, listing, read_text, verdict_text}
-use Rattle.listing.proofs.ListingLaws.{Ended, ended_append, ended_flat, line_ended, vcpu_line_ended, wait_lines_ended, task_lines_ended, Stands, stands_self, stands_left, stands_right, stands_flat, rising_rises, rising_only, in_rising, placed_stands}
+use Rattle.listing.specs.ListingLaws.{Ended, Stands}
+use Rattle.listing.proofs.ListingLaws.{ended_append, ended_flat, line_ended, vcpu_line_ended, wait_lines_ended, task_lines_ended, stands_self, stands_left, stands_right, stands_flat, rising_rises, rising_only, in_rising, placed_stands}
 use Rattle.claims.specs.Reported.{Reports, NoNumber, HeldUp, TaskReported, HasNumber, RowsPrinted}
 use Rattle.claims.specs.Reports.{vcpu_answer_reports, wait_answer_reports, task_answer_reports}
 

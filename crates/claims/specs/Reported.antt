@@ -29,7 +29,7 @@ use Rattle.answers_tasks.specs.declared.TaskRowAnswer.TheVariants.{TaskRow, NoTa
 use Rattle.answers_tasks.specs.declared.FigureAnswer.TheVariants.{Figure, NoFigure}
 use Rattle.answers_tasks.specs.Asked.{vcpu_asked, wait_asked, task_asked, response_asked}
 use Rattle.listing.specs.Listing.{w_wait, w_all, w_fits, w_late, line, answer_fields, task_fields, wait_fields, rising, listing}
-use Rattle.listing.proofs.ListingLaws.{Ended, Stands}
+use Rattle.listing.specs.ListingLaws.{Ended, Stands}
 
 -- the system of the plan in lent tables
 abbrev pub system_from : PlanRecord → Tables → System

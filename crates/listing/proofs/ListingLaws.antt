@@ -1,4 +1,4 @@
--- Where lines stand in the listing: the tasks rise, they are the plan's and no others, and each wait's line has its lock's place, counted from 1.
+-- Laws of the listing: its lines are ended, and stand in it whole; its tasks rise.
 use Prim.Native.Nat.{ℕ, zero, suc, ◌+◌, ◌≤◌, ◌<◌}
 use Rattle.std.specs.Prelude.{◌≡◌, refl, Bool, true, false, ◌&&◌, ◌⊎◌, eqb, length}
 use Rattle.std.proofs.Common.{ap, sym, subst, ◌∙◌, inl, inr, arith, eq-or-lt_of_le}
@@ -18,12 +18,7 @@ use Rattle.figures.specs.Figures.{is_section}
 use Rattle.figures.specs.Named.{Placed}
 use Rattle.figures.proofs.NamedLaws.{Apart, named_exactly, tasks_apart}
 use Rattle.listing.specs.Listing.{line, vcpu_line, wait_line, wait_lines, task_line, task_lines, rising}
-
--- WHOLE LINES
-
--- nothing, or it ends in LF
-abbrev pub Ended : List ℕ → Type 0
-Ended xs = (xs ≡ []) ⊎ ((b : List ℕ) × (xs ≡ b ++ (lf ∷ [])))
+use Rattle.listing.specs.ListingLaws.{Ended, Stands}
 
 pub ended_append : (xs ys : List ℕ) → Ended xs → Ended ys → Ended (xs ++ ys)
 ended_append xs ys a =
@@ -38,15 +33,6 @@ ended_flat {f = f} h (x ∷ xs) = ended_append (f x) (flat f xs) (h x) (ended_fl
 pub line_ended : (fs : List (List ℕ)) → Ended (line fs)
 unfolding line
 line_ended fs = inr (joined tab fs, refl)
-
--- TEXTS WITHIN TEXTS
-
--- these bytes stand in that text, whole lines before them
-pub record Stands (l out : List ℕ) : Type 0 where
-  pub before : List ℕ
-  pub after : List ℕ
-  pub is : out ≡ before ++ (l ++ after)
-  pub whole : Ended before
 
 pub stands_self : (l : List ℕ) → Stands l l
 stands_self l = record { before = []; after = []; is = sym (append-nil l); whole = inl refl }

@@ -1,3 +1,4 @@
 pub mod Former
 pub mod NoLater
 pub mod Cases
+pub mod Moves

@@ -1,5 +1,5 @@
 -- The field of a refused line is the leftmost whose own test fails with the lowest number.
-use Rattle.std.specs.Prelude.{ℕ, ◌+◌, ◌≡◌, refl, List, [], ◌∷◌, ◌++◌, ◌⊎◌, Bool, true, false, ◌&&◌, ltb, get_or}
+use Rattle.std.specs.Prelude.{ℕ, ◌+◌, ◌≡◌, refl, List, [], ◌∷◌, ◌++◌, Bool, true, false, ◌&&◌, ltb, get_or}
 use Rattle.std.proofs.Common.{ap, sym, ◌∙◌, inl, inr, arith}
 use Rattle.std.proofs.Math.Option.{Option, some, none}
 use Rattle.std.proofs.lemmas.Bool.{false≢true}
@@ -25,6 +25,7 @@ use Rattle.plan.specs.LineLaws.{kind_has}
 use Rattle.plan.specs.FirstFault.{FirstFault, HasFault, seen_after, refused_exactly}
 use Rattle.plan_fields.specs.Own.{Own, asked, placed, as_numbers, bounds, in_bounds, others, own_tests, Decides}
 use Rattle.plan_fields.specs.PlacedLaws.{number_test, Names, first_decides, names_append, all_order, placed_names, unwritten_out, others_names}
+use Rattle.plan_fields.specs.OwnLaws.{Told}
 
 -- a test of two is two tests of one refusal
 unless_both : (a b : Bool) (r : Refusal) (f : Fault) → unless (a && b) r f ≡ unless a r (unless b r f)
@@ -124,12 +125,6 @@ pub field_decides : (t : Known) (l : List ℕ) (i : Item) (r : Refusal) → item
 field_decides t l i r e h =
     let o = all_order t i.kind i.nums (follows t.phase i.kind) (shape i.kind) (as_numbers (shape i.kind) (pieces tab l)) (in_range i.kind i.nums) in
     first_decides (rules.field t i) (own_tests t l i) r o (all_names t l i e) (own_fault t l i e ∙ h)
-
--- what is told of a line before other pieces: a line of no kind is refused whole, and so is what follows the last LF
-abbrev pub Told : Known → List ℕ → List (List ℕ) → Complaint → Type 0
-Told t l [] c = (c.number ≡ Shape) × (c.field ≡ 0)
-Told t l (m ∷ ls) c =
-    ((item_of l ≡ none) × (c.number ≡ Shape) × (c.field ≡ 0)) ⊎ ((i : Item) × (item_of l ≡ some i) × Decides c.number c.field (own_tests t l i))
 
 -- a faulty line is told so
 fault_told : (t : Known) (l : List ℕ) (ls : List (List ℕ)) (c : Complaint) → HasFault rules t l ls c.number c.field → Told t l ls c

@@ -3,3 +3,4 @@ pub mod PlacedLaws
 pub mod Few
 pub mod Before
 pub mod BeforeLaws
+pub mod OwnLaws

@@ -6,7 +6,8 @@ use lib.ListN.{length}
 use borrow.Author.Rules.{rules}
 use borrow.Author.Tests.{ltb-true, ltb-false}
 use Rattle.clock_rules.specs.declared.RunAnswer.{RunAnswer}
-use Rattle.desk_runs.specs.Ran.{run_into, into_few, into_ran}
+use Rattle.desk_runs.specs.Ran.{run_into}
+use Rattle.desk_runs.proofs.RanLaws.{into_few, into_ran}
 use Rattle.exports_codes.specs.Exported.{run_exported, missed_left, run_fits, read_back}
 use Rattle.exports.proofs.ryefrost_run.Statement.{statement}
 use Rattle.exports.proofs.ryefrost_run.Tie as tie
