@@ -1,13 +1,5 @@
 -- How the run of a plan in bytes ends, on a clock: from its reading, and that code over the tables that the reading left answers so.
-<<<<<<< HEAD
-use Rattle.std.specs.Prelude.{ℕ, ◌≤◌, ◌<◌, ◌≡◌, List, Bool, true, false, ltb, length}
-use Rattle.std.proofs.Math.Path.{refl, ap}
-use Rattle.std.proofs.Common.{sym, ◌∙◌, lt-ltb, le-ltb}
-use Rattle.std.specs.Prelude.{if◌then◌else◌}
-=======
-use Rattle.std.specs.Prelude.{ℕ, List, ltb, length}
-use Rattle.laws.specs.Choice.{if◌then◌else◌}
->>>>>>> 94f4e43c78d457c5fd051302ebcb0a919efa7c22
+use Rattle.std.specs.Prelude.{ℕ, List, ltb, length, if◌then◌else◌}
 use Rattle.plan.specs.Limits.{max_input}
 use Rattle.plan.specs.declared.Refusal.TheVariants.{Range, Room}
 use Rattle.plan.specs.Plan.{Plan}
