@@ -19,7 +19,7 @@ use Rattle.board_keeps.specs.Locality.{Untouched, untouched, ask_local, free_loc
 use Rattle.board_keeps.proofs.Runs.{step_on_law}
 use Rattle.board_tables.specs.declared.FreshAnswer.TheVariants.{Made}
 use Rattle.board_tables.specs.Entered.{facts_from, fresh_for, step_for, run_for, last_for}
-use Rattle.board_tables.specs.EnteredLaws.{step_other, step_given, fair_from, fresh_of, tested_other, run_made, run_answers}
+use Rattle.board_tables.proofs.EnteredLaws.{step_other, step_given, fair_from, fresh_of, tested_other, run_made, run_answers}
 
 module _ (r : PlanRecord) (t : Tables) where
   abbrev F : Facts

@@ -24,7 +24,7 @@ use Rattle.read_answer.specs.Claims.{accepted_gives}
 use Rattle.records.specs.declared.Task as sheet
 use Rattle.records.specs.Sheet.{tables_of}
 use Rattle.records_read.specs.After.{sheets_after}
-use Rattle.records_read.specs.ReadLaws.{sheets_left}
+use Rattle.records_read.proofs.ReadLaws.{sheets_left}
 use Rattle.figures.specs.System.{system}
 use Rattle.figures.specs.Figures.{response}
 use Rattle.figures.specs.Named.{has_task, task_at, lock_at, has_section, Placed}

@@ -13,7 +13,7 @@ use Rattle.write_asked.proofs.Back.{read_written, written_back}
 use Rattle.records.specs.declared.Task.{Task}
 use Rattle.records.specs.Sheet.{tables_of}
 use Rattle.records_read.specs.After.{sheets_after}
-use Rattle.records_read.specs.ReadLaws.{sheets_left}
+use Rattle.records_read.proofs.ReadLaws.{sheets_left}
 use Rattle.records_ask.specs.declared.Text.TheVariants.{Plan}
 use Rattle.records_ask.specs.Wanted.{wanted}
 

@@ -1,4 +1,3 @@
 pub mod After
 pub mod Kept
-pub mod ReadLaws
 pub mod Lies

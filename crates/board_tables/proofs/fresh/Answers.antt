@@ -1,6 +1,6 @@
 -- `fresh` meets its contract: the test of the tables first.
 use mathlib.Core.Path.{sym, ◌∙◌}
-use Rattle.board_tables.specs.EnteredLaws.{fresh_given, fresh_other}
+use Rattle.board_tables.proofs.EnteredLaws.{fresh_given, fresh_other}
 use Rattle.board_tables.proofs.fresh.Goals as goal
 
 pub first_board-requires : goal.first_board-requires

@@ -1,6 +1,6 @@
 -- `step` meets its contract: the test of the tables first.
 use mathlib.Core.Path.{sym, ◌∙◌}
-use Rattle.board_tables.specs.EnteredLaws.{step_given, step_other}
+use Rattle.board_tables.proofs.EnteredLaws.{step_given, step_other}
 use Rattle.board_tables.proofs.step.Goals as goal
 
 pub step_given-requires : goal.step_given-requires

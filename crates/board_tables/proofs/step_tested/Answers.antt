@@ -1,6 +1,6 @@
 -- `step_tested` meets its contract: the test of the board first.
 use mathlib.Core.Path.{sym, ◌∙◌}
-use Rattle.board_tables.specs.EnteredLaws.{tested_other}
+use Rattle.board_tables.proofs.EnteredLaws.{tested_other}
 use Rattle.board_rules.specs.View.{facts_in}
 use Rattle.board_keeps.specs.Good.{good_marked}
 use Rattle.board_keeps.proofs.Runs.{step_on_law}

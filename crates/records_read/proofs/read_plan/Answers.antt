@@ -1,7 +1,7 @@
 -- What `read_in` leaves in the rows, copied into the records, is what reading leaves of them.
 use Rattle.std.proofs.Common.{ℕ, List, length, subst}
 use Rattle.records_read.specs.After.{ReadIn}
-use Rattle.records_read.specs.ReadLaws.{read_count, read_all}
+use Rattle.records_read.proofs.ReadLaws.{read_count, read_all}
 use Rattle.records_read.proofs.read_plan.Goals as goal
 
 pub save-requires : goal.save-requires

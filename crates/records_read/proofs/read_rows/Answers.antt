@@ -4,7 +4,7 @@ use native.Mathlib.Omega.{arith}
 use Rattle.plan_tables.specs.Layout.{Tables, lent}
 use Rattle.read_answer.specs.Ample.{ample_answer}
 use Rattle.records_read.specs.After.{count_of}
-use Rattle.records_read.specs.ReadLaws.{count_few}
+use Rattle.records_read.proofs.ReadLaws.{count_few}
 use Rattle.records_read.proofs.read_rows.Goals as goal
 
 pub all_kept-requires : goal.all_kept-requires
