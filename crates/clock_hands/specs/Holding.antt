@@ -1,5 +1,5 @@
 -- Whether the tasks of a VCPU hold a global mutex, as what is kept of its holders says it.
-use Rattle.std.specs.Prelude.{ℕ, ◌<◌, ◌≤◌, ◌≡◌, refl, List, Bool, true, false, ◌&&◌, not, eqb}
+use Rattle.std.specs.Prelude.{ℕ, ◌<◌, ◌≡◌, refl, List, Bool, true, false, ◌&&◌, not, eqb}
 use Rattle.std.proofs.Common.{ap, sym, ◌∙◌, ⊎_elim, arith, eq-eqb, ne_eqb, eqb-true}
 use Rattle.laws.specs.Range.{any_to, highest}
 use Rattle.laws.specs.RangeLaws.{any_hit, none_of, highest_passes, highest_zero}

@@ -5,13 +5,12 @@ use Rattle.laws.specs.BoolLaws.{miss_right, clash, same_or_not}
 use Rattle.laws_picks.specs.Picks.{lowest}
 use Rattle.laws_picks.specs.PickLaws.{lowest_le, lowest_passes, lowest_zero}
 use Rattle.plan.specs.declared.Policy.{Policy}
-use Rattle.board_rules.specs.declared.Board.{Board}
 use Rattle.board_rules.specs.Board.{left_of, under_p}
 use Rattle.board_keeps.specs.Fair.{InV}
 use Rattle.clock_sets.specs.Sets.{in_set, Without}
 use Rattle.clock_sets.specs.SetLaws.{some_vcpu, in_none}
-use Rattle.clock_rules.specs.Clock.{Timing, is_on, has_ready}
-use Rattle.clock_marks.specs.Marks.{done_in, Mirrors}
+use Rattle.clock_rules.specs.Clock.{is_on, has_ready}
+use Rattle.clock_marks.specs.Marks.{done_in}
 use Rattle.clock_dues.specs.Picking.{Idlers}
 use Rattle.clock_reaches.specs.Stretches.{ticks_cell, Idles, Within}
 

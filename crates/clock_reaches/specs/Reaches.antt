@@ -6,23 +6,22 @@ use Rattle.std.proofs.Math.Logic.{⊎_elim}
 use Rattle.std.proofs.Math.Decide.{dec_lt}
 use Rattle.std.specs.Prelude.{if◌then◌else◌}
 use Rattle.laws.specs.Choice.{when}
-use Rattle.laws.specs.BoolLaws.{both, both_left, both_right, clash}
+use Rattle.laws.specs.BoolLaws.{both, both_left, clash}
 use Rattle.laws.specs.RangeLaws.{any_hit}
-use Rattle.laws_picks.specs.Picks.{lowest}
-use Rattle.laws_picks.specs.PickLaws.{lowest_le, lowest_passes, lowest_zero}
+use Rattle.laws_picks.specs.PickLaws.{lowest_passes, lowest_zero}
 use Rattle.plan.specs.Limits.{max_locks}
 use Rattle.board_seats.specs.Seats.{is_v, is_n, seat, holds_it}
 use Rattle.board_rules.specs.Facts.{Facts}
 use Rattle.board_rules.specs.declared.Board.{Board}
 use Rattle.board_rules.specs.Board.{left_of, holds}
 use Rattle.board_keeps.specs.Fair.{InV, InN}
-use Rattle.clock_rules.specs.Clock.{Timing, done_of}
+use Rattle.clock_rules.specs.Clock.{done_of}
 use Rattle.clock_steps.specs.Done.{by_seat_law}
 use Rattle.clock_times.specs.Times.{at_begin, at_end, at_mutex, lock_cell, mutex_with, lock_with, lengths_cell, timing_in, Ordered}
 use Rattle.clock_marks.specs.Marks.{at_place, at_done, done_cell, place_cell, done_in, Ended, Mirrors}
 use Rattle.clock_dues.specs.Picking.{mutex_at}
 use Rattle.clock_dues.specs.Places.{begins_at, ends_at}
-use Rattle.clock_plains.specs.Plains.{due_at, Goes}
+use Rattle.clock_plains.specs.Plains.{Goes}
 use Rattle.clock_plains.specs.PlainMirrors.{ended_later}
 use Rattle.clock_reaches.specs.Stretches.{next_cell, Stretch}
 

@@ -1,14 +1,13 @@
 -- The same number of ticks of all cores' turns, core after core.
-use Rattle.std.specs.Prelude.{ℕ, suc, ◌+◌, ◌-◌, ◌<◌, ◌≤◌, ◌≡◌, refl, Bool, List, length, get_or, set}
-use Rattle.std.proofs.Common.{sym, ap, ap₂, subst, subst₂, ◌∙◌, arith}
+use Rattle.std.specs.Prelude.{ℕ, suc, ◌+◌, ◌-◌, ◌<◌, ◌≤◌, ◌≡◌, Bool, List, get_or}
+use Rattle.std.proofs.Common.{subst, subst₂, ◌∙◌, arith}
 use Rattle.plan.specs.declared.Policy.{Policy}
 use Rattle.plan.specs.declared.OverrunChoice.{OverrunChoice}
-use Rattle.board_rules.specs.declared.Board.{Board}
-use Rattle.clock_rules.specs.Clock.{Timing, Run, cores, after_turns, run_from}
+use Rattle.clock_rules.specs.Clock.{cores, after_turns, run_from}
 use Rattle.clock_marks.specs.Marks.{board_of, run_in, done_in}
 use Rattle.clock_nexts.specs.Nexts.{Quiet}
 use Rattle.clock_going.specs.Going.{timing_by, Going}
-use Rattle.clock_plains.specs.Plains.{Plain, Spent}
+use Rattle.clock_plains.specs.Plains.{Spent}
 use Rattle.clock_plains.specs.PlainTicks.{plain_ticks}
 use Rattle.clock_reaches.specs.Stretches.{ticks_cell, vcpu_cell, task_cell}
 use Rattle.clock_spends.specs.Spends.{Counted, Spending, Spendable}

@@ -5,12 +5,11 @@ use Rattle.std.specs.Prelude.{if◌then◌else◌}
 use Rattle.laws.specs.BoolLaws.{both, either_left, both_left, miss_right, same_or_not}
 use Rattle.laws_picks.specs.Picks.{lowest}
 use Rattle.plan.specs.declared.Policy.{Policy}
-use Rattle.board_rules.specs.declared.Board.{Board}
 use Rattle.board_keeps.specs.Fair.{InV}
 use Rattle.clock_sets.specs.Sets.{in_set, Without}
 use Rattle.clock_sets.specs.SetLaws.{in_none}
-use Rattle.clock_rules.specs.Clock.{Timing, idles}
-use Rattle.clock_marks.specs.Marks.{done_in, Mirrors}
+use Rattle.clock_rules.specs.Clock.{idles}
+use Rattle.clock_marks.specs.Marks.{done_in}
 use Rattle.clock_plains.specs.Plains.{loses}
 use Rattle.clock_reaches.specs.Stretches.{Idles}
 use Rattle.clock_reaches.specs.Bounds.{next_in_law, is_in, still_out, now_out}

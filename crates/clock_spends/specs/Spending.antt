@@ -1,27 +1,26 @@
 -- Ticks of plain turns, spent on the clock's lists.
-use Rattle.std.specs.Prelude.{ℕ, suc, ◌+◌, ◌-◌, ◌*◌, ◌<◌, ◌≤◌, ◌≡◌, Bool, true, false, ◌&&◌, ◌||◌, not, List, ◌⊎◌, eqb, ltb, length, get_or, set}
+use Rattle.std.specs.Prelude.{ℕ, suc, ◌+◌, ◌-◌, ◌*◌, ◌<◌, ◌≤◌, ◌≡◌, Bool, List, ltb, length, get_or, set}
 use Rattle.std.proofs.Math.Path.{refl}
 use Rattle.std.proofs.Common.{sym, ap, ap₂, subst, subst₂, ◌∙◌, eq-zero-or-pos, arith, eq-eqb, ne_eqb, le-leb, length-set, get_or-set_same, get_or-set_other}
 use Rattle.std.proofs.Math.Logic.{⊎_elim}
 use Rattle.std.proofs.lemmas.Bool.{not-true}
-use Rattle.std.specs.Prelude.{if◌then◌else◌}
 use Rattle.laws.specs.Choice.{when}
 use Rattle.laws.specs.RangeLaws.{any_hit}
 use Rattle.laws.specs.BoolLaws.{both_right, is_false, clash, same_or_not}
 use Rattle.plan.specs.Limits.{max_v, most_n}
 use Rattle.plan.specs.declared.Policy.{Policy}
 use Rattle.plan.specs.declared.OverrunChoice.{OverrunChoice}
-use Rattle.board_seats.specs.Seats.{is_v, is_n, seat}
+use Rattle.board_seats.specs.Seats.{seat}
 use Rattle.board_rules.specs.View.{facts_in}
 use Rattle.board_rules.specs.declared.Board.{Board}
 use Rattle.board_rules.specs.Board.{left_of, under_p}
 use Rattle.board_keeps.specs.Fair.{InV, InN}
-use Rattle.clock_rules.specs.Clock.{Timing, Run, after_turn, done_of, is_ready, has_ready, is_on, idles}
-use Rattle.clock_times.specs.Times.{timing_in, lengths_cell, Paired}
+use Rattle.clock_rules.specs.Clock.{Timing, after_turn, is_ready, has_ready, is_on, idles}
+use Rattle.clock_times.specs.Times.{timing_in, Paired}
 use Rattle.clock_marks.specs.Marks.{board_of, run_in, done_in, done_cell, place_cell, Ended, Sized, Mirrors}
 use Rattle.clock_steps.specs.Done.{by_seat_law}
 use Rattle.clock_going.specs.Going.{timing_by, Going}
-use Rattle.clock_plains.specs.Plains.{Goes, Plain, Spent, loses}
+use Rattle.clock_plains.specs.Plains.{Plain, Spent}
 use Rattle.clock_plains.specs.SpentLaws.{spent_done}
 use Rattle.clock_plains.specs.PlainLaws.{plain_chosen, spent_alike, plain_later, plain_other}
 use Rattle.clock_plains.specs.Alike.{picked_alike}
@@ -29,7 +28,7 @@ use Rattle.clock_plains.specs.PlainTurn.{plain_turn, spent_running}
 use Rattle.clock_plains.specs.PlainMirrors.{kept_after, plain_mirrors, plain_done}
 use Rattle.clock_reaches.specs.Stretches.{ticks_cell, vcpu_cell, task_cell, Idles}
 use Rattle.clock_reaches.specs.Reaches.{goes_ended}
-use Rattle.clock_spends.specs.Spends.{CountedAt, PickedAt, Counted, Lost, lost_own, LostIn, Spending, Spendable}
+use Rattle.clock_spends.specs.Spends.{CountedAt, Counted, Lost, lost_own, Spending, Spendable}
 use Rattle.clock_spends.specs.Losing.{lost_all}
 
 -- fewer ticks

@@ -1,5 +1,5 @@
 -- The idle uses of a core's turn, from the lowest VCPU up: those of the VCPUs up to some number are made, and those above are still in a set.
-use Prim.Native.Nat.{ℕ, zero, suc, ◌+◌, ◌<◌, ◌≤◌}
+use Prim.Native.Nat.{ℕ, zero, suc, ◌<◌, ◌≤◌}
 use Rattle.std.specs.Prelude.{◌≡◌, refl, Bool, true, ◌&&◌, not, eqb, ltb, length}
 use Rattle.std.proofs.Math.Path.{ap, subst}
 use Rattle.std.proofs.Common.{sym, ◌∙◌, arith, ltb-true, lt-ltb, eq-eqb, ne_eqb}

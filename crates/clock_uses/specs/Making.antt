@@ -1,5 +1,5 @@
 -- Events made one after the other, and told one behind the other.
-use Rattle.std.specs.Prelude.{ℕ, ◌+◌, ◌≡◌, refl, List, [], ◌∷◌, ◌++◌, Bool, false, length}
+use Rattle.std.specs.Prelude.{ℕ, ◌≡◌, refl, List, [], ◌∷◌, ◌++◌, Bool, false, length}
 use Rattle.std.proofs.Math.Path.{ap, sym}
 use Rattle.std.proofs.Common.{subst, subst₂, ◌∙◌, append-nil, true≢false}
 use Rattle.plan.specs.declared.Fault.{Fault}
