@@ -7,7 +7,7 @@ use prog.Routine.{Routine}
 use types.Logic.{Logic}
 use contract.Lifetimes.{Lfts}
 use contract.Monad.{Fun, fact}
-use Rattle.std.specs.Borrow.{Bor}
+use Rattle.std.specs.Borrow.{Bor, MutBor}
 use denote.Triple.Clauses.{AtExit, closing}
 use Rattle.plan_tables.specs.declared.PlanRecord.{PlanRecord}
 use Rattle.plan_tables.specs.Layout.{lent}
@@ -58,7 +58,7 @@ use Rattle.exports_write.specs.contracts as exports_write
 module _ {M : Type 1} {𝓤 : Ura M} (𝓛 : Logic 𝓤) (mem : Memory → SProp 𝓤) (run : Routine → Fun 𝓤) where
   -- READING INTO RECORDS
   pub read_sheet_is :
-      (κs : Lfts 5) (s : Bor (List ℕ)) (vt mt ot : Bor (List ℕ)) (ks : Bor (List Task)) (z : PlanAnswer) (e : AtExit records_read.read_plan.ended κs) →
+      (κs : Lfts 5) (s : Bor (List ℕ)) (vt mt ot : MutBor (List ℕ)) (ks : MutBor (List Task)) (z : PlanAnswer) (e : AtExit records_read.read_plan.ended κs) →
       (records_read.read_plan.clauses 𝓛 mem run κs (s, (vt, (mt, (ot, (ks, tt)))))).ensures tt z e
       ≡ fact 𝓤 (ReadOut s.now vt.now mt.now ot.now ks.now z e.1.0.now e.1.1.0.now e.1.1.1.0.now e.1.1.1.1.0.now)
   read_sheet_is κs s vt mt ot ks z e = refl
@@ -77,7 +77,7 @@ module _ {M : Type 1} {𝓤 : Ura M} (𝓛 : Logic 𝓤) (mem : Memory → SProp
   reply_stated = refl
 
   pub write_sheet_is :
-      (κs : Lfts 5) (r : PlanRecord) (vt mt ot : Bor (List ℕ)) (ks : Bor (List Task)) (w : Text) (o : Bor (List ℕ)) (z : TextAnswer) (e : AtExit records_ask.write.ended κs) →
+      (κs : Lfts 5) (r : PlanRecord) (vt mt ot : Bor (List ℕ)) (ks : Bor (List Task)) (w : Text) (o : MutBor (List ℕ)) (z : TextAnswer) (e : AtExit records_ask.write.ended κs) →
       (records_ask.write.clauses 𝓛 mem run κs (r, (vt, (mt, (ot, (ks, (w, (o, tt)))))))).ensures tt z e
       ≡ sep 𝓤 (fact 𝓤 (z ≡ text_asked (wanted w) r (tables_of vt.now mt.now ot.now ks.now) o.now))
       (fact 𝓤 (e.1.1.1.1.1.1.0.now ≡ text_left (wanted w) r (tables_of vt.now mt.now ot.now ks.now) o.now))
@@ -153,7 +153,7 @@ module _ {M : Type 1} {𝓤 : Ura M} (𝓛 : Logic 𝓤) (mem : Memory → SProp
 
   -- THE FUNCTIONS FOR C
   pub ryefrost_verdict_is :
-      (κs : Lfts 2) (s o : Bor (List ℕ)) (z : ℤ) (e : AtExit exports.ryefrost_verdict.ended κs) →
+      (κs : Lfts 2) (s : Bor (List ℕ)) (o : MutBor (List ℕ)) (z : ℤ) (e : AtExit exports.ryefrost_verdict.ended κs) →
       (exports.ryefrost_verdict.clauses 𝓛 mem run κs (s, (o, tt))).ensures tt z e
       ≡ sep 𝓤 (fact 𝓤 (z ≡ exported (text_answer (verdict_text s.now) o.now))) (fact 𝓤 (e.1.0.now ≡ text_after (verdict_text s.now) o.now))
   ryefrost_verdict_is κs s o z e = refl
@@ -162,7 +162,7 @@ module _ {M : Type 1} {𝓤 : Ura M} (𝓛 : Logic 𝓤) (mem : Memory → SProp
   ryefrost_verdict_stated = refl
 
   pub ryefrost_board_is :
-      (κs : Lfts 3) (s es o : Bor (List ℕ)) (z : ℤ) (e : AtExit exports.ryefrost_board.ended κs) →
+      (κs : Lfts 3) (s es : Bor (List ℕ)) (o : MutBor (List ℕ)) (z : ℤ) (e : AtExit exports.ryefrost_board.ended κs) →
       (exports.ryefrost_board.clauses 𝓛 mem run κs (s, (es, (o, tt)))).ensures tt z e
       ≡ sep 𝓤 (fact 𝓤 (z ≡ exported (text_answer (board_text s.now es.now) o.now))) (fact 𝓤 (e.1.1.0.now ≡ text_after (board_text s.now es.now) o.now))
   ryefrost_board_is κs s es o z e = refl
@@ -171,7 +171,7 @@ module _ {M : Type 1} {𝓤 : Ura M} (𝓛 : Logic 𝓤) (mem : Memory → SProp
   ryefrost_board_stated = refl
 
   pub ryefrost_run_is :
-      (κs : Lfts 2) (s : Bor (List ℕ)) (h : ℕ) (o : Bor (List ℕ)) (z : ℤ) (e : AtExit exports.ryefrost_run.ended κs) →
+      (κs : Lfts 2) (s : Bor (List ℕ)) (h : ℕ) (o : MutBor (List ℕ)) (z : ℤ) (e : AtExit exports.ryefrost_run.ended κs) →
       (exports.ryefrost_run.clauses 𝓛 mem run κs (s, (h, (o, tt)))).ensures tt z e
       ≡ sep 𝓤 (fact 𝓤 (z ≡ run_exported (run_into s.now h o.now))) (fact 𝓤 (e.1.1.0.now ≡ missed_left (run_into s.now h o.now) o.now))
   ryefrost_run_is κs s h o z e = refl
@@ -180,7 +180,7 @@ module _ {M : Type 1} {𝓤 : Ura M} (𝓛 : Logic 𝓤) (mem : Memory → SProp
   ryefrost_run_stated = refl
 
   pub ryefrost_write_is :
-      (κs : Lfts 6) (ns vt mt ot ts o : Bor (List ℕ)) (z : ℤ) (e : AtExit exports_write.ryefrost_write.ended κs) →
+      (κs : Lfts 6) (ns vt mt ot ts : Bor (List ℕ)) (o : MutBor (List ℕ)) (z : ℤ) (e : AtExit exports_write.ryefrost_write.ended κs) →
       (exports_write.ryefrost_write.clauses 𝓛 mem run κs (ns, (vt, (mt, (ot, (ts, (o, tt))))))).ensures tt z e
       ≡ sep 𝓤 (fact 𝓤 (z ≡ exported (numbers_asked ns.now (lent vt.now mt.now ot.now ts.now) o.now)))
       (fact 𝓤 (e.1.1.1.1.1.0.now ≡ numbers_left ns.now (lent vt.now mt.now ot.now ts.now) o.now))

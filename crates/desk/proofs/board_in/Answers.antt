@@ -1,5 +1,5 @@
 -- `board_in` meets its contract.
-use Rattle.desk_rooms.specs.Whole.{whole_wrote, wrote_counted, board_fits}
+use Rattle.desk_rooms.proofs.WholeLaws.{whole_wrote, wrote_counted, board_fits}
 use Rattle.desk.proofs.board_in.Goals as goal
 
 pub returns : goal.returns

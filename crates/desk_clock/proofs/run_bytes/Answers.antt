@@ -1,7 +1,7 @@
 -- `run_bytes` meets its contract.
 use borrow.Author.Rules.{rules}
 use Rattle.records_read.specs.Lies.{left_sure}
-use Rattle.desk_runs.specs.Ran.{ran_large, ran_read}
+use Rattle.desk_runs.proofs.RanLaws.{ran_large, ran_read}
 use Rattle.desk_clock.proofs.run_bytes.Goals as goal
 
 pub returns-then-too_large : goal.returns-then-too_large

@@ -1,5 +1,5 @@
 -- `run_or` meets its contract.
-use Rattle.desk_runs.specs.Ran.{ran_accepted, ran_refused}
+use Rattle.desk_runs.proofs.RanLaws.{ran_accepted, ran_refused}
 use Rattle.desk_clock.proofs.run_or.Goals as goal
 
 pub run_to-requires : goal.run_to-requires

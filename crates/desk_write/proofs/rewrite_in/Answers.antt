@@ -1,5 +1,5 @@
 -- `desk_write::rewrite_in` meets its contract.
-use Rattle.desk_rooms.specs.Whole.{whole_wrote, wrote_counted}
+use Rattle.desk_rooms.proofs.WholeLaws.{whole_wrote, wrote_counted}
 use Rattle.desk_write.specs.Rewritten.{rewrite_fits}
 use Rattle.desk_write.proofs.rewrite_in.Goals as goal
 
