@@ -1,2 +1,0 @@
-// Theorems over several floors: this crate has proofs only, in specs/.
-#![tactic(auto)]

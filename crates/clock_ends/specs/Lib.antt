@@ -1,3 +1,0 @@
-pub mod Ends
-pub mod RunLaws
-pub mod EndLaws
