@@ -1,2 +1,2 @@
-// Events as lines in, answers as lines out: this crate has definitions and proofs only, in specs/.
+// Events as lines in, answers as lines out: this crate has definitions and proofs only, in specs/ and proofs/.
 #![tactic(auto)]

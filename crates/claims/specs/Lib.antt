@@ -1,0 +1,9 @@
+pub mod Worked
+pub mod Reported
+pub mod Reports
+pub mod FromBytes
+pub mod Printed
+pub mod Boards
+pub mod Written
+pub mod Once
+pub mod Pinned

@@ -1,0 +1,2 @@
+// Theorems over several floors: this crate has proofs only, in specs/.
+#![tactic(auto)]

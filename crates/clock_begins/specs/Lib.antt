@@ -1,0 +1,2 @@
+pub mod TableLaws
+pub mod Begins

@@ -1,0 +1,3 @@
+pub mod Ticks
+pub mod TickLaws
+pub mod ListLaws
