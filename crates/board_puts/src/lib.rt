@@ -3,9 +3,10 @@
 
 ghost use Rattle.std.specs.Prelude.{◌≡◌, ◌-◌, ◌≤◌, length, set};
 ghost use Rattle.board_seats.specs.Seats.{seat};
-ghost use Rattle.board_reserves.specs.Supplies.{next_mark};
+ghost use Rattle.board_supply.specs.Supplies.{next_mark};
 
 use board_seats::sub;
+pub use board_supply as supply;
 use plan::Policy;
 
 // The mark of v alone, when an event is complete: where no other mark is due and lacking, the board is settled.

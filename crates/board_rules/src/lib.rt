@@ -230,7 +230,7 @@ impl Board {
         requires { (length left.old ≡ 16) × (length over.old ≡ 16) × (length stopped.old ≡ 16) × ((ws : List ℕ) → Marked (facts_in policy choice view.now) (board_of left.old over.old stopped.old holder.now ws)) }
         ensures { (ws : List ℕ) → outcome_of result (board_of left.new over.new stopped.new holder.now ws) ≡ step (facts_in policy choice view.now) (board_of left.old over.old stopped.old holder.now ws) (Event.Use v t) }
     {
-        let fault = board_supply::use_fault(choice, view, left, over, stopped, holder, v, t);
+        let fault = board_puts::supply::use_fault(choice, view, left, over, stopped, holder, v, t);
         match fault {
             Fault::Clear => used(policy, view, left, over, stopped, holder, v, t),
             Fault::Bad(k) => BoardAnswer::Refused(k),
@@ -301,7 +301,7 @@ impl Board {
         requires { (length stopped.now ≡ 16) × (length waits.old ≡ 128) × Marked (facts_in policy choice view.now) (board_of left.now over.now stopped.now holder.old waits.old) }
         ensures { outcome_of result (board_of left.now over.now stopped.now holder.new waits.new) ≡ step (facts_in policy choice view.now) (board_of left.now over.now stopped.now holder.old waits.old) (Event.Ask v n m) }
     {
-        let fault = board_supply::ask_fault(
+        let fault = board_puts::supply::ask_fault(
             choice, view, left, over, stopped, holder, waits, v, n, m,
         );
         match fault {
@@ -351,7 +351,7 @@ impl Board {
         requires { (length stopped.old ≡ 16) × (length waits.old ≡ 128) × ((os : List ℕ) → Marked (facts_in policy choice view.now) (board_of left.now os stopped.old holder.old waits.old)) }
         ensures { (os : List ℕ) → outcome_of result (board_of left.now os stopped.new holder.new waits.new) ≡ step (facts_in policy choice view.now) (board_of left.now os stopped.old holder.old waits.old) (Event.Free v n m) }
     {
-        let fault = board_supply::free_fault(view, holder, v, n, m);
+        let fault = board_puts::supply::free_fault(view, holder, v, n, m);
         match fault {
             Fault::Clear => Board::free_sure(
                 policy, choice, view, left, stopped, holder, waits, v, n, m,
@@ -545,7 +545,7 @@ impl Board {
     pub fn good(self, policy: Policy, choice: OverrunChoice, view: &[u64]) -> bool
         ensures { result ≡ good (facts_in policy choice view.now) self }
     {
-        let vcpus = board_supply::vcpus_good(
+        let vcpus = board_puts::supply::vcpus_good(
             policy,
             view,
             &self.left,

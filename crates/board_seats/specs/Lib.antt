@@ -1,2 +1,3 @@
 pub mod Seats
 pub mod SeatLaws
+pub use Rattle.plan.specs.Limits

@@ -6,7 +6,7 @@ use Rattle.std.proofs.lemmas.Bool.{not-true, not-false}
 use Rattle.laws.specs.BoolLaws.{both_left, both_right, both}
 use Rattle.laws.specs.Range.{any_to, all_to, highest, list_to}
 use Rattle.laws.specs.RangeLaws.{any_none, any_more, any_hit, none_of, all_none, all_more, all_miss, highest_zero, highest_same, highest_passes, highest_le, list_length, list_at}
-use Rattle.plan.specs.Limits.{max_v, most_n}
+use Rattle.board_seats.specs.Limits.{max_v, most_n}
 use Rattle.board_seats.specs.Seats.{seat, wait_at}
 use Rattle.board_walks.specs.Walks.{row_of, rows_of, column_of, row_with}
 

@@ -2,7 +2,7 @@
 use Rattle.std.specs.Prelude.{ℕ, ◌-◌, ◌*◌, List, [], Bool, ◌&&◌, ◌||◌, not, eqb, ltb, leb, get_or}
 use Rattle.std.specs.Prelude.{if◌then◌else◌}
 use Rattle.laws.specs.Range.{any_to, all_to, highest, list_to}
-use Rattle.plan.specs.Limits.{max_v, max_m, most_n}
+use Rattle.board_seats.specs.Limits.{max_v, max_m, most_n}
 use Rattle.board_seats.specs.Seats.{is_global, is_local, lists_it, ceiling_of, holds_it, held_by_other, wait_at, local_waiter}
 
 -- a task of v holds m, which is global

@@ -2,3 +2,4 @@ pub mod Coming
 pub mod Chosen
 pub mod Rest
 pub mod PickLaws
+pub use Rattle.clock_takes.specs.Asked

@@ -1,1 +1,2 @@
 pub mod AllTurns
+pub use Rattle.clock_turns.specs.Turned

@@ -16,8 +16,8 @@ use Rattle.laws.specs.BoolLaws.{bool_cases}
 use Rattle.clock_misses.specs.DueLaws.{quiet_until}
 use Rattle.clock_renews.specs.PartLaws.{nexts_later}
 use Rattle.clock_plains.specs.PlainTicks.{run_quiet}
-use Rattle.clock_reaches.specs.Stretches.{plain_length}
-use Rattle.clock_spends.specs.Spends.{Counted}
+use Rattle.clock_strides.specs.Stretches.{plain_length}
+use Rattle.clock_strides.specs.Spends.{Counted}
 use Rattle.clock_strides.specs.Strides.{turns_or, Strided}
 use Rattle.clock_skips.specs.Skips.{Coming, soonest, Stepping}
 use Rattle.clock_skips.specs.SkipLaws.{soon_both, soon_from}

@@ -7,7 +7,7 @@ use Rattle.clock_rules.specs.Clock.{Run, cores, after_turns, tick, run_from}
 use Rattle.clock_marks.specs.Marks.{board_of, run_in, done_in}
 use Rattle.clock_nexts.specs.Nexts.{Nexts}
 use Rattle.clock_going.specs.Going.{timing_by, Going}
-use Rattle.clock_spends.specs.Spends.{Counted}
+use Rattle.clock_strides.specs.Spends.{Counted}
 
 -- THE RUN to h has come to tick t, from the state r at tick 0 on,
 pub record Reached (p : Policy) (o : OverrunChoice) (view x : List ℕ) (h : ℕ) (r : Run) (t : ℕ) (ls os : List ℕ) (ss : List Bool) (hs ws k y : List ℕ) : Type 0 where

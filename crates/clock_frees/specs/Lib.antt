@@ -1,1 +1,2 @@
 pub mod Handing
+pub use Rattle.clock_hands.specs.Freed

@@ -4,7 +4,7 @@ use Rattle.std.specs.Prelude.{if◌then◌else◌}
 use Rattle.laws.specs.Range.{any_to}
 use Rattle.plan.specs.Limits.{most_n}
 use Rattle.board_seats.specs.Seats.{seat}
-use Rattle.board_keeps.specs.Fair.{InV, InN}
+use Rattle.clock_times.specs.Fair.{InV, InN}
 use Rattle.clock_sets.specs.Sets.{in_set}
 use Rattle.clock_marks.specs.Marks.{at_ready, at_tasks, at_holders, at_held, tasks_cell, holders_cell, held_cell}
 

@@ -10,8 +10,8 @@ use Rattle.board_rules.specs.Facts.{Facts}
 use Rattle.board_rules.specs.declared.Board.{Board}
 pub use Rattle.board_rules.specs.Lent.{board_of}
 use Rattle.board_rules.specs.Board.{left_of, over_of, is_stopped, holds_global, held_global, held_local}
-use Rattle.board_keeps.specs.Fair.{InV, InN}
-use Rattle.clock_rules.specs.Clock.{Timing, Run, by_seat, is_ready, has_ready, is_on}
+use Rattle.clock_times.specs.Fair.{InV, InN}
+use Rattle.clock_times.specs.Clock.{Timing, Run, by_seat, is_ready, has_ready, is_on}
 use Rattle.clock_sets.specs.Sets.{in_set}
 use Rattle.clock_times.specs.Times.{at_end, at_mutex, lock_cell}
 

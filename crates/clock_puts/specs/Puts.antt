@@ -4,7 +4,7 @@ use Rattle.std.specs.Prelude.{if◌then◌else◌}
 use Rattle.plan.specs.Limits.{max_core}
 use Rattle.board_keeps.specs.Fair.{InV}
 use Rattle.clock_sets.specs.Sets.{in_set}
-use Rattle.clock_times.specs.Times.{core_cell}
+use Rattle.clock_marks.specs.Times.{core_cell}
 use Rattle.clock_marks.specs.Marks.{Sized, at_budget, at_spare, at_cores}
 
 -- r is s with x, or without it

@@ -11,7 +11,7 @@ use Rattle.clock_nexts.specs.Nexts.{Nexts, Quiet, at_tops, at_jobs, sooner}
 use Rattle.clock_nexts.specs.ScanLaws.{sooner_it, sooner_not}
 use Rattle.clock_misses.specs.DueLaws.{quiet_until}
 use Rattle.clock_going.specs.Going.{timing_by, Going}
-use Rattle.clock_releases.specs.Opens.{Opening}
+use Rattle.clock_opens.specs.Opens.{Opening}
 use Rattle.clock_reaches.specs.Stretches.{ticks_cell}
 use Rattle.clock_spends.specs.Spends.{Counted}
 use Rattle.clock_spends.specs.AllSpending.{Ready, AllReady, SpentAll, ready_last, all_ticks}

@@ -3,3 +3,4 @@ pub mod Losing
 pub mod Spending
 pub mod Putting
 pub mod AllSpending
+pub use Rattle.clock_asks.specs.Asked

@@ -7,7 +7,7 @@ use Rattle.board_keeps.specs.Fair.{InV}
 use Rattle.clock_rules.specs.Clock.{Timing}
 use Rattle.clock_sets.specs.Sets.{in_set}
 use Rattle.clock_marks.specs.Marks.{done_cell, done_in, Sized, Mirrors}
-use Rattle.clock_takes.specs.Asked.{KnownPick}
+use Rattle.clock_asks.specs.Asked.{KnownPick}
 use Rattle.clock_plains.specs.Plains.{Plain, loses}
 use Rattle.clock_plains.specs.PlainMirrors.{kept_after}
 use Rattle.clock_reaches.specs.Stretches.{plain_length, ticks_cell, vcpu_cell, task_cell, Idles}

@@ -14,7 +14,7 @@ use Rattle.clock_times.specs.Times.{timing_in}
 use Rattle.clock_marks.specs.Marks.{board_of, run_in, done_in}
 use Rattle.clock_steps.specs.Hands.{any_hands_on}
 use Rattle.clock_going.specs.Going.{timing_by, Going}
-use Rattle.clock_takes.specs.Asked.{KnownPick}
+use Rattle.clock_spends.specs.Asked.{KnownPick}
 use Rattle.clock_plains.specs.Plains.{Plain}
 use Rattle.clock_alone.specs.Beside.{plain_beside, picked_beside}
 use Rattle.clock_reaches.specs.Stretches.{ticks_cell, vcpu_cell, task_cell}

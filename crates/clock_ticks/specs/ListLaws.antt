@@ -13,7 +13,7 @@ use Rattle.board_rules.specs.BoardLaws.{next_none, next_some}
 use Rattle.clock_lines.specs.Told.{RoomAt}
 use Rattle.clock_going.specs.Going.{timing_by, Going, Made}
 use Rattle.clock_releases.specs.Opens.{Opening}
-use Rattle.clock_turns.specs.Turned.{Turned}
+use Rattle.clock_cores.specs.Turned.{Turned}
 use Rattle.clock_ticks.specs.Ticks.{Ticking}
 use Rattle.clock_ticks.specs.TickLaws as laws
 

@@ -6,7 +6,7 @@ use Rattle.laws_picks.specs.Picks.{lowest}
 use Rattle.plan.specs.Limits.{max_v, most_n, max_locks, max_period}
 use Rattle.board_seats.specs.Seats.{is_v, is_n, seat}
 use Rattle.board_seats.specs.Seats as seats
-use Rattle.board_rules.specs.Facts.{Facts}
+use Rattle.clock_rules.specs.Facts.{Facts}
 use Rattle.board_keeps.specs.Fair.{InV, InN}
 use Rattle.clock_rules.specs.Clock.{Timing}
 

@@ -27,11 +27,11 @@ use Rattle.clock_steps.specs.WorkTurn.{idle_working}
 use Rattle.clock_lines.specs.Told.{RoomAt}
 use Rattle.clock_steps.specs.Hands.{any_hands_on}
 use Rattle.clock_going.specs.Going.{timing_by, Going, Made}
-use Rattle.clock_takes.specs.Asked.{Asked}
+use Rattle.clock_asks.specs.Asked.{Asked}
 use Rattle.board_rules.specs.BoardLaws.{next_none, next_some}
 use Rattle.clock_uses.specs.Making.{made_none, made_then, room_begin, room_then}
 use Rattle.clock_works.specs.Worked.{WorkerOn}
-use Rattle.clock_frees.specs.Handing.{asks_no_frees, idle_no_frees, hands_after, none_hands}
+use Rattle.clock_works.specs.Handing.{asks_no_frees, idle_no_frees, hands_after, none_hands}
 use Rattle.clock_turns.specs.Turned.{Turned, Did, Uses}
 
 -- UNDER D nobody loses a tick

@@ -12,10 +12,10 @@ ghost use Rattle.clock_marks.specs.Marks.{board_of, run_in, done_in};
 ghost use Rattle.clock_lines.specs.Told.{RoomAt};
 ghost use Rattle.clock_steps.specs.Hands.{any_hands_on};
 ghost use Rattle.clock_going.specs.Going.{timing_by, Going};
-ghost use Rattle.clock_takes.specs.Asked.{KnownPick};
+ghost use Rattle.clock_asks.specs.Asked.{KnownPick};
 ghost use Rattle.clock_turns.specs.Turned.{Turned, Did, Uses};
 
-use clock_frees::Worked;
+use clock_works::Worked;
 use plan::{OverrunChoice, Policy};
 
 // Policy P holds.

@@ -28,7 +28,7 @@ use Rattle.clock_rules.specs.Clock.{Timing, Run, is_on, has_ready, idles, idle_u
 use Rattle.clock_rules.specs.Trace.{lines_at}
 use Rattle.clock_times.specs.Times.{timing_in}
 use Rattle.clock_marks.specs.Marks.{board_of, run_in, done_in}
-use Rattle.clock_dues.specs.Picking.{Idlers}
+use Rattle.clock_picks.specs.Picking.{Idlers}
 use Rattle.clock_steps.specs.Accepted.{Accepted}
 use Rattle.clock_steps.specs.IdleTurn.{idle_accepted}
 use Rattle.clock_lines.specs.Told.{RoomAt}

@@ -1,1 +1,2 @@
 pub mod Worked
+pub use Rattle.clock_frees.specs.Handing

@@ -38,7 +38,7 @@ use Rattle.clock_steps.specs.Hands.{any_hands_on}
 use Rattle.clock_going.specs.Going.{timing_by, Going, Made}
 use Rattle.clock_uses.specs.Making.{made_then, room_begin, room_then}
 use Rattle.clock_uses.specs.Using.{Uses}
-use Rattle.clock_hands.specs.Freed.{Frees, next_in, freed_answer, lengths_in}
+use Rattle.clock_frees.specs.Freed.{Frees, next_in, freed_answer, lengths_in}
 use Rattle.clock_frees.specs.Handing.{hands_after}
 
 -- (v, n) is what some core picked

@@ -14,7 +14,7 @@ ghost use Rattle.clock_going.specs.Going.{timing_by, Going, Made};
 ghost use Rattle.clock_works.specs.Worked.{WorkerOn, place_with, OneMore};
 
 use board_rules::{Board, Event, Next};
-use clock_frees::Worked;
+pub use clock_frees::Worked;
 use plan::{OverrunChoice, Policy};
 
 // d ticks are done of the job of (v, n), and one more section has ended where m is not 0.

@@ -1,0 +1,1 @@
+pub use Rattle.board_reserves.specs.Supplies

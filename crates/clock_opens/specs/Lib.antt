@@ -1,0 +1,1 @@
+pub use Rattle.clock_releases.specs.Opens
