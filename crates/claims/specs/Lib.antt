@@ -1,8 +1,5 @@
 pub mod Worked
 pub mod Reported
-pub mod Reports
-pub mod FromBytes
-pub mod Printed
 pub mod Boards
 pub mod Written
 pub mod Once

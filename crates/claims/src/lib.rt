@@ -1,2 +1,2 @@
-// Theorems over several floors: this crate has proofs only, in specs/.
+// Theorems over several floors: this crate has proofs only, in specs/ and proofs/.
 #![tactic(auto)]

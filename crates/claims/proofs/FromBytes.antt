@@ -35,7 +35,7 @@ use Rattle.answers_tasks.specs.declared.TaskRowAnswer.TheVariants.{TaskRow, NoTa
 use Rattle.answers_tasks.specs.declared.FigureAnswer.TheVariants.{Figure, NoFigure}
 use Rattle.answers_tasks.specs.Asked.{has_place, vcpu_row_of, wait_row_of, task_row_of, response_row_of, vcpu_asked, wait_asked, task_asked, response_asked}
 use Rattle.claims.specs.Reported.{RowsReported}
-use Rattle.claims.specs.Reports.{vcpu_answer_reports, wait_answer_reports, task_answer_reports}
+use Rattle.claims.proofs.Reports.{vcpu_answer_reports, wait_answer_reports, task_answer_reports}
 
 -- what a test chooses
 module _ {A : Type 0} (x y : A) where

@@ -26,7 +26,7 @@ use Rattle.listing.specs.Listing.{w_verdict, line, vcpu_line, wait_line, wait_li
 use Rattle.listing.specs.ListingLaws.{Ended, Stands}
 use Rattle.listing.proofs.ListingLaws.{ended_append, ended_flat, line_ended, vcpu_line_ended, wait_lines_ended, task_lines_ended, stands_self, stands_left, stands_right, stands_flat, rising_rises, rising_only, in_rising, placed_stands}
 use Rattle.claims.specs.Reported.{Reports, NoNumber, HeldUp, TaskReported, HasNumber, RowsPrinted}
-use Rattle.claims.specs.Reports.{vcpu_answer_reports, wait_answer_reports, task_answer_reports}
+use Rattle.claims.proofs.Reports.{vcpu_answer_reports, wait_answer_reports, task_answer_reports}
 
 -- FITS
 

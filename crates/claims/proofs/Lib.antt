@@ -1,0 +1,3 @@
+pub mod Reports
+pub mod FromBytes
+pub mod Printed
