@@ -55,6 +55,7 @@ fn releases(times: &[u64], marks: &mut [u64], nexts: &[u64], t: u64)
 }
 
 // Where jobs are due at tick t, the first missed one is found; where none is, they are released, and when they recur next is written.
+#[tactic(auto, using(crate::specs::OpenLaws::jobs_quiet, crate::specs::OpenLaws::jobs_missed, crate::specs::OpenLaws::jobs_made))]
 pub fn jobs_due(times: &[u64], marks: &mut [u64], nexts: &mut [u64], t: u64, at: usize) -> Opened
     requires { Periods times.now × Sized marks.old × (length nexts.old ≡ 162) × Jobs times.now nexts.old t × (t ≤ 1000000) }
     ensures { Jobbed times.now marks.old nexts.old t marks.new nexts.new result.v result.n × (result.at ≡ at) }
