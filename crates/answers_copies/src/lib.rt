@@ -4,23 +4,20 @@
 ghost use Rattle.std.specs.Prelude.{◌≡◌, ◌+◌, ◌*◌, ◌<◌, ◌≤◌, length};
 ghost use Rattle.search.specs.Row.{row_in, pushed};
 ghost use Rattle.plan_tables.specs.Layout.{lock_row};
-ghost use Rattle.figures.specs.Tabled.{Fit};
 
-use plan_tables::PlanRecord;
+use figures_cells::PlanTables;
 
 // The place of a lock of task i on the mutex of its lock j: an earlier one where there is one.
-pub fn same_before(r: PlanRecord, vt: &[u64], mt: &[u64], ts: &[u64], i: usize, j: usize) -> usize
-    requires { Fit r vt.now mt.now ts.now × (i < r.tasks) × (j < 8) }
-    ensures { (result ≤ j) × ((lock_row ts.now i result).m ≡ (lock_row ts.now i j).m) }
+pub fn same_before(t: &PlanTables, i: usize, j: usize) -> usize
+    requires { (i < t.now.plan.tasks) × (j < 8) }
+    ensures { (result ≤ j) × ((lock_row t.now.tasks.now i result).m ≡ (lock_row t.now.tasks.now i j).m) }
 {
-    let m = figures_cells::lock_cell(r, vt, mt, ts, i, j, 0);
-    let mut e = 0;
-    while e < j {
-        let x = figures_cells::lock_cell(r, vt, mt, ts, i, e, 0);
+    let m = t.lock_cell(i, j, 0);
+    for e in 0..j {
+        let x = t.lock_cell(i, e, 0);
         if x == m {
             return e;
         }
-        e += 1;
     }
     j
 }

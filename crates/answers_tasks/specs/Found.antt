@@ -1,5 +1,5 @@
 -- Laws of the code that asks for a row by its names: what it answers of the row that was found, or of none.
-use Rattle.std.specs.Prelude.{ℕ, ◌+◌, ◌-◌, ◌*◌, ◌/◌, ◌%◌, ◌<◌, ◌≤◌, ◌≡◌, Bool, true, false, ◌&&◌, List, leb, length, get_or}
+use Rattle.std.specs.Prelude.{ℕ, ◌+◌, ◌-◌, ◌*◌, ◌/◌, ◌%◌, ◌<◌, ◌≤◌, ◌≡◌, Bool, true, false, ◌&&◌, List, leb, length, get_or, Ok, Err}
 use Rattle.std.proofs.Math.Path.{ap, ap₂, sym}
 use Rattle.std.proofs.Common.{◌∙◌}
 use native.Mathlib.Omega.{arith}
@@ -24,7 +24,7 @@ use Rattle.figures.specs.Answers.{vcpu_answer, wait_answer, task_answer}
 use Rattle.figures_found.specs.First.{VcpuFirst, TaskFirst, vcpu_test, vcpu_is, task_test, task_is}
 use Rattle.figures_slices.specs.Filled.{section_at}
 use Rattle.figures_slices.specs.Stored.{section_response, Responses}
-use Rattle.answers_tasks.specs.Asked.{Row, NoRow, TaskRow, NoTaskRow, Figure, NoFigure, has_place, vcpu_row_of, wait_row_of, task_row_of, response_row_of}
+use Rattle.answers_tasks.specs.Asked.{has_place, vcpu_row_of, wait_row_of, task_row_of, response_row_of}
 
 -- A CHOICE that is known
 chosen : {A : Type 0} {b : Bool} (x y : A) → b ≡ true → x ≡ elim b [ true ↦ x | false ↦ y ]
@@ -35,11 +35,11 @@ passed x y e = rw e
 
 -- A ROW OF A PLAN
 module _ (r : PlanRecord) (vt mt ts : List ℕ) (v : ℕ) {i : ℕ} (h : VcpuFirst r vt v i) where
-  pub vcpu_there : {a : Answer} → i < r.vcpus → a ≡ vcpu_answer (system_in r vt mt ts) (vcpu_row vt i) → Row a ≡ vcpu_row_of (system_in r vt mt ts) v
+  pub vcpu_there : {a : Answer} → i < r.vcpus → a ≡ vcpu_answer (system_in r vt mt ts) (vcpu_row vt i) → Ok a ≡ vcpu_row_of (system_in r vt mt ts) v
   unfolding vcpu_row_of system_in
-  vcpu_there l e = ap Row (e ∙ ap (vcpu_answer (system_in r vt mt ts)) (sym (vcpu_is r vt v h mt ts l))) ∙ chosen _ _ (vcpu_test r vt v h ∙ lt-ltb i r.vcpus l)
+  vcpu_there l e = ap Ok (e ∙ ap (vcpu_answer (system_in r vt mt ts)) (sym (vcpu_is r vt v h mt ts l))) ∙ chosen _ _ (vcpu_test r vt v h ∙ lt-ltb i r.vcpus l)
 
-  pub vcpu_lacking : r.vcpus ≤ i → NoRow Unknown ≡ vcpu_row_of (system_in r vt mt ts) v
+  pub vcpu_lacking : r.vcpus ≤ i → Err Unknown ≡ vcpu_row_of (system_in r vt mt ts) v
   unfolding vcpu_row_of system_in
   vcpu_lacking l = passed _ _ (vcpu_test r vt v h ∙ le-ltb i r.vcpus l)
 
@@ -53,11 +53,11 @@ module _ (r : PlanRecord) (vt mt ts : List ℕ) (v n : ℕ) {i : ℕ} (h : TaskF
   no_task_law : r.tasks ≤ i → has_task (system_in r vt mt ts) v n ≡ false
   no_task_law l = task_test r vt mt ts v n h ∙ le-ltb i r.tasks l
 
-  pub task_there : {a : TaskAnswer} → i < r.tasks → a ≡ task_answer (system_in r vt mt ts) (task_row ts i) → TaskRow a ≡ task_row_of (system_in r vt mt ts) v n
+  pub task_there : {a : TaskAnswer} → i < r.tasks → a ≡ task_answer (system_in r vt mt ts) (task_row ts i) → Ok a ≡ task_row_of (system_in r vt mt ts) v n
   unfolding task_row_of
-  task_there l e = ap TaskRow (e ∙ ap (task_answer (system_in r vt mt ts)) (sym (row_is l))) ∙ chosen _ _ (has_task_law l)
+  task_there l e = ap Ok (e ∙ ap (task_answer (system_in r vt mt ts)) (sym (row_is l))) ∙ chosen _ _ (has_task_law l)
 
-  pub task_lacking : r.tasks ≤ i → NoTaskRow Unknown ≡ task_row_of (system_in r vt mt ts) v n
+  pub task_lacking : r.tasks ≤ i → Err Unknown ≡ task_row_of (system_in r vt mt ts) v n
   unfolding task_row_of
   task_lacking l = passed _ _ (no_task_law l)
 
@@ -71,33 +71,33 @@ module _ (r : PlanRecord) (vt mt ts : List ℕ) (v n : ℕ) {i : ℕ} (h : TaskF
 
     pub wait_there :
         {a : Answer} {b : Bool} → i < r.tasks → b ≡ has_section (system_in r vt mt ts) (task_row ts i) place → b ≡ true →
-        a ≡ wait_answer (system_in r vt mt ts) (task_row ts i) (lock_at (task_row ts i) place) → Row a ≡ wait_row_of (system_in r vt mt ts) v n place
+        a ≡ wait_answer (system_in r vt mt ts) (task_row ts i) (lock_at (task_row ts i) place) → Ok a ≡ wait_row_of (system_in r vt mt ts) v n place
     unfolding wait_row_of
-    wait_there l d f e = ap Row (e ∙ ap (λ k. wait_answer (system_in r vt mt ts) k (lock_at k place)) (sym (row_is l))) ∙ chosen _ _ (has_place_law l d ∙ f)
+    wait_there l d f e = ap Ok (e ∙ ap (λ k. wait_answer (system_in r vt mt ts) k (lock_at k place)) (sym (row_is l))) ∙ chosen _ _ (has_place_law l d ∙ f)
 
-    pub wait_lacking : r.tasks ≤ i → NoRow Unknown ≡ wait_row_of (system_in r vt mt ts) v n place
+    pub wait_lacking : r.tasks ≤ i → Err Unknown ≡ wait_row_of (system_in r vt mt ts) v n place
     unfolding wait_row_of
     wait_lacking l = passed _ _ (no_place l)
 
     pub wait_nowhere :
         {b : Bool} → i < r.tasks → b ≡ has_section (system_in r vt mt ts) (task_row ts i) place → b ≡ false →
-        NoRow Unknown ≡ wait_row_of (system_in r vt mt ts) v n place
+        Err Unknown ≡ wait_row_of (system_in r vt mt ts) v n place
     unfolding wait_row_of
     wait_nowhere l d f = passed _ _ (has_place_law l d ∙ f)
 
     pub response_there :
         {x : ℕ} {b : Bool} → i < r.tasks → b ≡ has_section (system_in r vt mt ts) (task_row ts i) place → b ≡ true →
-        x ≡ response (system_in r vt mt ts) (task_row ts i) (lock_at (task_row ts i) place) → Figure x ≡ response_row_of (system_in r vt mt ts) v n place
+        x ≡ response (system_in r vt mt ts) (task_row ts i) (lock_at (task_row ts i) place) → Ok x ≡ response_row_of (system_in r vt mt ts) v n place
     unfolding response_row_of
-    response_there l d f e = ap Figure (e ∙ ap (λ k. response (system_in r vt mt ts) k (lock_at k place)) (sym (row_is l))) ∙ chosen _ _ (has_place_law l d ∙ f)
+    response_there l d f e = ap Ok (e ∙ ap (λ k. response (system_in r vt mt ts) k (lock_at k place)) (sym (row_is l))) ∙ chosen _ _ (has_place_law l d ∙ f)
 
-    pub response_lacking : r.tasks ≤ i → NoFigure Unknown ≡ response_row_of (system_in r vt mt ts) v n place
+    pub response_lacking : r.tasks ≤ i → Err Unknown ≡ response_row_of (system_in r vt mt ts) v n place
     unfolding response_row_of
     response_lacking l = passed _ _ (no_place l)
 
     pub response_nowhere :
         {b : Bool} → i < r.tasks → b ≡ has_section (system_in r vt mt ts) (task_row ts i) place → b ≡ false →
-        NoFigure Unknown ≡ response_row_of (system_in r vt mt ts) v n place
+        Err Unknown ≡ response_row_of (system_in r vt mt ts) v n place
     unfolding response_row_of
     response_nowhere l d f = passed _ _ (has_place_law l d ∙ f)
 

@@ -4,13 +4,14 @@
 ghost use Rattle.std.specs.Prelude.{◌≡◌, ◌+◌, ◌*◌, ◌≤◌, length};
 ghost use Rattle.laws.specs.Sums.{all};
 ghost use Rattle.laws.specs.Rows.{rows};
-ghost use Rattle.figures.specs.Tabled.{Fit, system_in};
+ghost use Rattle.figures_cells.specs.Held.{system_of};
 ghost use Rattle.figures.specs.Answers.{all_fit};
 ghost use Rattle.figures.specs.Kinds.{answer_of, task_answer_of};
-ghost use Rattle.answers_told.specs.Read.{answer_in, task_answer_in, fits_in, VcpuAnswersIn, TaskAnswersIn};
+ghost use Rattle.answers_told.specs.Read.{answer_in, task_answer_in, fits_in};
+ghost use Rattle.answers_told.specs.Lent.{VcpuAnswersOf, TaskAnswersOf};
 
 use figures::TaskAnswer;
-use plan_tables::PlanRecord;
+use figures_cells::PlanTables;
 use search::Answer;
 
 fn answer_of(k: u64, w: u64, n: u64) -> Answer
@@ -63,21 +64,19 @@ fn rows_fit(xs: &[u64], n: usize) -> bool
     requires { n * 3 ≤ length xs.now }
     ensures { result ≡ all (fits_in xs.now) (rows n (λ k. k)) }
 {
-    let mut k = 0;
-    while k < n {
+    for k in 0..n {
         let b = xs[k * 3] == 1;
         if !b {
             return false;
         }
-        k += 1;
     }
     true
 }
 
 // Do all VCPUs and tasks fit?
-pub fn all_fit(r: PlanRecord, vt: &[u64], mt: &[u64], ts: &[u64], va: &[u64], ta: &[u64]) -> bool
-    requires { Fit r vt.now mt.now ts.now × VcpuAnswersIn r vt.now mt.now ts.now va.now × TaskAnswersIn r vt.now mt.now ts.now ta.now }
-    ensures { result ≡ all_fit (system_in r vt.now mt.now ts.now) }
+pub fn all_fit(t: &PlanTables, va: &[u64], ta: &[u64]) -> bool
+    requires { VcpuAnswersOf t.now va.now × TaskAnswersOf t.now ta.now }
+    ensures { result ≡ all_fit (system_of t.now) }
 {
-    rows_fit(va, r.vcpus) & rows_fit(ta, r.tasks)
+    rows_fit(va, t.plan.vcpus) & rows_fit(ta, t.plan.tasks)
 }

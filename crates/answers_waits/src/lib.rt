@@ -5,15 +5,15 @@ ghost use Rattle.std.specs.Prelude.{◌≡◌, true, ℕ, ◌+◌, ◌*◌, ◌<
 ghost use Rattle.search.specs.Search.{rounds};
 ghost use Rattle.search.specs.Row.{row_in, pushed};
 ghost use Rattle.plan_tables.specs.Layout.{over, lock_row, task_row};
-ghost use Rattle.figures.specs.Tabled.{Fit, system_in};
+ghost use Rattle.figures_cells.specs.Held.{system_of};
 ghost use Rattle.figures.specs.Answers.{wait_answer, ticks_of};
 ghost use Rattle.figures.specs.Figures.{is_section};
 ghost use Rattle.figures.specs.Kinds.{answer_kind};
-ghost use Rattle.figures_slices.specs.Stored.{TasksIn, VcpusIn, ResponsesIn};
+ghost use Rattle.figures_slices.specs.Lent.{TasksOf, VcpusOf, ResponsesOf};
 ghost use Rattle.figures_slices.specs.Store.{vcpu_answers, wait_answers};
 ghost use Rattle.figures_slices.specs.Filled.{answer_row, section_at, place_at, Places};
 
-use plan_tables::PlanRecord;
+use figures_cells::PlanTables;
 use search::Answer;
 
 // What an answer is: 0 late, 1 fits.
@@ -58,103 +58,64 @@ fn put_answer(xs: &mut [u64], n: usize, a: Answer)
 }
 
 // Fills the answers of the VCPUs.
-pub fn fill_vcpus(
-    r: PlanRecord,
-    vt: &[u64],
-    mt: &[u64],
-    ts: &[u64],
-    tf: &[u64],
-    vf: &[u64],
-    rows: &mut [u64],
-    va: &mut [u64],
-)
-    requires { Fit r vt.now mt.now ts.now × TasksIn r vt.now mt.now ts.now tf.now × VcpusIn r vt.now mt.now ts.now vf.now × (240 ≤ length rows.old) × (48 ≤ length va.old) }
-    ensures { va.new ≡ over (vcpu_answers (system_in r vt.now mt.now ts.now)) va.old }
+pub fn fill_vcpus(t: &PlanTables, tf: &[u64], vf: &[u64], rows: &mut [u64], va: &mut [u64])
+    requires { TasksOf t.now tf.now × VcpusOf t.now vf.now × (240 ≤ length rows.old) × (48 ≤ length va.old) }
+    ensures { va.new ≡ over (vcpu_answers (system_of t.now)) va.old }
 {
-    let n = r.vcpus;
-    let mut a = 0;
-    while a < n {
-        let x = times_vcpus::vcpu_answer(r, vt, mt, ts, tf, vf, rows, a);
+    let n = t.plan.vcpus;
+    for a in 0..n {
+        let x = times_vcpus::vcpu_answer(t, tf, vf, rows, a);
         put_answer(va, a, x);
-        a += 1;
     }
 }
 
 // Is lock j of task i a global section?
-fn is_section(r: PlanRecord, vt: &[u64], mt: &[u64], ts: &[u64], i: usize, j: usize) -> bool
-    requires { Fit r vt.now mt.now ts.now × (i < r.tasks) × (j < 8) }
-    ensures { result ≡ section_at (system_in r vt.now mt.now ts.now) ts.now i j }
+fn is_section(t: &PlanTables, i: usize, j: usize) -> bool
+    requires { (i < t.now.plan.tasks) × (j < 8) }
+    ensures { result ≡ section_at (system_of t.now) t.now.tasks.now i j }
 {
-    let m = figures_cells::lock_cell(r, vt, mt, ts, i, j, 0);
-    (j < figures_cells::lock_count(r, vt, mt, ts, i)) & figures_cells::is_global(r, vt, mt, ts, m)
+    let m = t.lock_cell(i, j, 0);
+    (j < t.lock_count(i)) & t.is_global(m)
 }
 
 // The answer of the wait of task i at its lock j, a global section.
-fn wait_at(
-    r: PlanRecord,
-    vt: &[u64],
-    mt: &[u64],
-    ts: &[u64],
-    rf: &[u64],
-    rows: &mut [u64],
-    i: usize,
-    j: usize,
-) -> Answer
-    requires { Fit r vt.now mt.now ts.now × ResponsesIn r vt.now mt.now ts.now rf.now × (r.tasks * 8 ≤ length rf.now) × (i < r.tasks) × (j < 8) × (is_section (system_in r vt.now mt.now ts.now) (lock_row ts.now i j) ≡ true) × (240 ≤ length rows.old) }
-    ensures { result ≡ wait_answer (system_in r vt.now mt.now ts.now) (task_row ts.now i) (lock_row ts.now i j) }
+fn wait_at(t: &PlanTables, rf: &[u64], rows: &mut [u64], i: usize, j: usize) -> Answer
+    requires { ResponsesOf t.now rf.now × (t.now.plan.tasks * 8 ≤ length rf.now) × (i < t.now.plan.tasks) × (j < 8) × (is_section (system_of t.now) (lock_row t.now.tasks.now i j) ≡ true) × (240 ≤ length rows.old) }
+    ensures { result ≡ wait_answer (system_of t.now) (task_row t.now.tasks.now i) (lock_row t.now.tasks.now i j) }
 {
-    let v = figures_cells::task_cell(r, vt, mt, ts, i, 0);
-    let limit = figures_cells::task_cell(r, vt, mt, ts, i, 2);
-    let m = figures_cells::lock_cell(r, vt, mt, ts, i, j, 0);
-    times_waits::wait_answer(r, vt, mt, ts, rf, rows, v, m, limit)
+    let v = t.task_cell(i, 0);
+    let limit = t.task_cell(i, 2);
+    let m = t.lock_cell(i, j, 0);
+    times_waits::wait_answer(t, rf, rows, v, m, limit)
 }
 
 // Writes the answer of place k; waits of one task on one mutex are searched once.
-fn put_wait(
-    r: PlanRecord,
-    vt: &[u64],
-    mt: &[u64],
-    ts: &[u64],
-    rf: &[u64],
-    rows: &mut [u64],
-    wa: &mut [u64],
-    k: usize,
-)
-    requires { Fit r vt.now mt.now ts.now × ResponsesIn r vt.now mt.now ts.now rf.now × (r.tasks * 8 ≤ length rf.now) × (k < r.tasks * 8) × (240 ≤ length rows.old) × (r.tasks * 24 ≤ length wa.old) × ((q : ℕ) → q < k → row_in wa.old q ≡ place_at (system_in r vt.now mt.now ts.now) ts.now q) }
-    ensures { wa.new ≡ pushed wa.old k (place_at (system_in r vt.now mt.now ts.now) ts.now k) }
+fn put_wait(t: &PlanTables, rf: &[u64], rows: &mut [u64], wa: &mut [u64], k: usize)
+    requires { ResponsesOf t.now rf.now × (t.now.plan.tasks * 8 ≤ length rf.now) × (k < t.now.plan.tasks * 8) × (240 ≤ length rows.old) × (t.now.plan.tasks * 24 ≤ length wa.old) × ((q : ℕ) → q < k → row_in wa.old q ≡ place_at (system_of t.now) t.now.tasks.now q) }
+    ensures { wa.new ≡ pushed wa.old k (place_at (system_of t.now) t.now.tasks.now k) }
 {
     let i = k / 8;
     let j = k % 8;
-    if !is_section(r, vt, mt, ts, i, j) {
+    if !is_section(t, i, j) {
         search_rows::push_row(wa, k, 0, 0, 0);
         return;
     }
-    let e = answers_copies::same_before(r, vt, mt, ts, i, j);
+    let e = answers_copies::same_before(t, i, j);
     if e < j {
         answers_copies::copy_answer(wa, i * 8 + e, k);
         return;
     }
-    let a = wait_at(r, vt, mt, ts, rf, rows, i, j);
+    let a = wait_at(t, rf, rows, i, j);
     put_answer(wa, k, a);
 }
 
 // Fills the answers of the waits.
-pub fn fill_waits(
-    r: PlanRecord,
-    vt: &[u64],
-    mt: &[u64],
-    ts: &[u64],
-    rf: &[u64],
-    rows: &mut [u64],
-    wa: &mut [u64],
-)
-    requires { Fit r vt.now mt.now ts.now × ResponsesIn r vt.now mt.now ts.now rf.now × (r.tasks * 8 ≤ length rf.now) × (240 ≤ length rows.old) × (r.tasks * 24 ≤ length wa.old) }
-    ensures { (wa.new ≡ over (wait_answers (system_in r vt.now mt.now ts.now)) wa.old) × Places (system_in r vt.now mt.now ts.now) ts.now (r.tasks * 8) wa.new }
+pub fn fill_waits(t: &PlanTables, rf: &[u64], rows: &mut [u64], wa: &mut [u64])
+    requires { ResponsesOf t.now rf.now × (t.now.plan.tasks * 8 ≤ length rf.now) × (240 ≤ length rows.old) × (t.now.plan.tasks * 24 ≤ length wa.old) }
+    ensures { (wa.new ≡ over (wait_answers (system_of t.now)) wa.old) × Places (system_of t.now) t.now.tasks.now (t.now.plan.tasks * 8) wa.new }
 {
-    let n = r.tasks * 8;
-    let mut k = 0;
-    while k < n {
-        put_wait(r, vt, mt, ts, rf, rows, wa, k);
-        k += 1;
+    let n = t.plan.tasks * 8;
+    for k in 0..n {
+        put_wait(t, rf, rows, wa, k);
     }
 }

@@ -1,17 +1,16 @@
 // Reads a plan in plan.tsv and events on standard input, and prints the answer to each event, or the plan's refusal.
 #![tactic(auto)]
 
-use program::Input;
 use std::process::ExitCode;
 
 // One byte more than is judged is read, so that a longer input is seen to be longer.
 fn main(rt: HostRuntime) -> ExitCode {
     let mut plan = [0u8; 65537];
-    let Input::Bytes(k) = program::read_file(&rt, b"plan.tsv", &mut plan) else {
+    let Some(k) = program::read_file(&rt, b"plan.tsv", &mut plan) else {
         return ExitCode::FAILURE;
     };
     let mut src = [0u8; 65537];
-    let Input::Bytes(n) = program::read_input(&rt, b"the events on standard input", &mut src) else {
+    let Some(n) = program::read_input(&rt, b"the events on standard input", &mut src) else {
         return ExitCode::FAILURE;
     };
     let mut out = [0u8; 655360];

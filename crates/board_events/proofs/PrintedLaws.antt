@@ -1,8 +1,7 @@
 -- What `board` prints is the answers of the run of its lines' events, each in its line's place.
-use Rattle.std.specs.Prelude.{ℕ, suc, ◌+◌, ◌-◌, ◌≤◌, min, ◌≡◌, refl, Bool, true, false, ◌⊎◌, ◌↔◌, length}
+use Rattle.std.specs.Prelude.{ℕ, suc, ◌+◌, ◌-◌, ◌≤◌, min, ◌≡◌, refl, Bool, true, false, ◌⊎◌, ◌↔◌, length, Option, Some, None}
 use Rattle.std.proofs.Common.{ap, ap₂, ◌∙◌, inl, inr, arith, le-ltb}
 use mathlib.Core.List.{List, [], ◌∷◌}
-use Rattle.std.proofs.Math.Option.{Option, some, none}
 use Rattle.laws.specs.Sums.{Each}
 use Rattle.laws.specs.Bytes.{pieces}
 use Rattle.laws.specs.Fields.{count}
@@ -32,13 +31,13 @@ on_says F b (AnEvent e) = step F b e
 on_says F b (NoEvent r) = refused b r
 
 event_says_law : (F : Facts) (b : Board) (ok : Bool) (o : Option Event) → on_event F b ok o ≡ on_says F b (event_says ok o)
-event_says_law F b ok none = refl
-event_says_law F b true (some e) = refl
-event_says_law F b false (some e) = refl
+event_says_law F b ok None = refl
+event_says_law F b true (Some e) = refl
+event_says_law F b false (Some e) = refl
 
 item_says_law : (F : Facts) (b : Board) (o : Option Item) → on_item F b o ≡ on_says F b (item_says o)
-item_says_law F b none = refl
-item_says_law F b (some i) = event_says_law F b (written (shape i.kind) i.nums) (event_of i.kind i.nums)
+item_says_law F b None = refl
+item_says_law F b (Some i) = event_says_law F b (written (shape i.kind) i.nums) (event_of i.kind i.nums)
 
 pub line_says : (F : Facts) (b : Board) (l : List ℕ) → on_line F b l ≡ on_says F b (says_of l)
 unfolding on_line says_of
@@ -48,28 +47,28 @@ line_says F b l = item_says_law F b (item_of l)
 
 -- the line l has the word and the field count of an event: its item is i, which names e
 abbrev pub Names : List ℕ → Item → Event → Type 0
-Names l i e = (item_of l ≡ some i) × (event_of i.kind i.nums ≡ some e)
+Names l i e = (item_of l ≡ Some i) × (event_of i.kind i.nums ≡ Some e)
 
-names_says : (l : List ℕ) (i : Item) (e : Event) (ok : Bool) → Names l i e → written (shape i.kind) i.nums ≡ ok → says_of l ≡ event_says ok (some e)
+names_says : (l : List ℕ) (i : Item) (e : Event) (ok : Bool) → Names l i e → written (shape i.kind) i.nums ≡ ok → says_of l ≡ event_says ok (Some e)
 unfolding says_of
 names_says l i e ok n w = ap item_says n.0 ∙ ap₂ event_says w n.1
 
 -- a line names an event, or says what a line of no kind says
 data Named (l : List ℕ) : Type 0 where
   named : (i : Item) (e : Event) (ok : Bool) → Names l i e → written (shape i.kind) i.nums ≡ ok → Named l
-  unnamed : says_of l ≡ item_says none → ((i : Item) (e : Event) → Names l i e → ⊥) → Named l
+  unnamed : says_of l ≡ item_says None → ((i : Item) (e : Event) → Names l i e → ⊥) → Named l
 
 named_or_not : (l : List ℕ) → Named l
 unfolding says_of
 named_or_not l = at_item (item_of l) refl
   where
-    at_event : (i : Item) → item_of l ≡ some i → (o : Option Event) → event_of i.kind i.nums ≡ o → Named l
-    at_event i h none k = unnamed (ap item_says h ∙ ap (event_says _) k) (λ j e n. let p = n.0 in let q = n.1 in let z : ◌≡◌ {A = ℕ} 0 1 = cc in omega arith)
-    at_event i h (some e) k = named i e _ (h, k) refl
+    at_event : (i : Item) → item_of l ≡ Some i → (o : Option Event) → event_of i.kind i.nums ≡ o → Named l
+    at_event i h None k = unnamed (ap item_says h ∙ ap (event_says _) k) (λ j e n. let p = n.0 in let q = n.1 in let z : ◌≡◌ {A = ℕ} 0 1 = cc in omega arith)
+    at_event i h (Some e) k = named i e _ (h, k) refl
 
     at_item : (o : Option Item) → item_of l ≡ o → Named l
-    at_item none h = unnamed (ap item_says h) (λ j e n. let p = n.0 in let z : ◌≡◌ {A = ℕ} 0 1 = cc in omega arith)
-    at_item (some i) h = at_event i h (event_of i.kind i.nums) refl
+    at_item None h = unnamed (ap item_says h) (λ j e n. let p = n.0 in let z : ◌≡◌ {A = ℕ} 0 1 = cc in omega arith)
+    at_item (Some i) h = at_event i h (event_of i.kind i.nums) refl
 
 -- 2 is for a number's form, in a line that names an event
 pub two_exactly : (l : List ℕ) → (says_of l ≡ NoEvent Number) ↔ ((i : Item) × (e : Event) × Names l i e × (written (shape i.kind) i.nums ≡ false))
@@ -85,7 +84,7 @@ pub says_exactly : (l : List ℕ) (e : Event) → (says_of l ≡ AnEvent e) ↔ 
 says_exactly l e = (from (named_or_not l), λ h. names_says l h.0 e true h.1 h.2)
   where
     from : Named l → says_of l ≡ AnEvent e → (i : Item) × Names l i e × (written (shape i.kind) i.nums ≡ true)
-    from (named i d true n w) h = let q = names_says l i d true n w in let z : d ≡ e = cc in (i, (n.0, n.1 ∙ ap some z), w)
+    from (named i d true n w) h = let q = names_says l i d true n w in let z : d ≡ e = cc in (i, (n.0, n.1 ∙ ap Some z), w)
     from (named i d false n w) h = absurd (let q = names_says l i d false n w in let z : ◌≡◌ {A = ℕ} 0 1 = cc in omega arith)
     from (unnamed u n) h = absurd (let z : ◌≡◌ {A = ℕ} 0 1 = cc in omega arith)
 
@@ -109,13 +108,13 @@ OneOrTwo (AnEvent e) = Unit {0}
 OneOrTwo (NoEvent r) = (r ≡ Shape) ⊎ (r ≡ Number)
 
 event_one_or_two : (ok : Bool) (o : Option Event) → OneOrTwo (event_says ok o)
-event_one_or_two ok none = inl refl
-event_one_or_two true (some e) = tt
-event_one_or_two false (some e) = inr refl
+event_one_or_two ok None = inl refl
+event_one_or_two true (Some e) = tt
+event_one_or_two false (Some e) = inr refl
 
 item_one_or_two : (o : Option Item) → OneOrTwo (item_says o)
-item_one_or_two none = inl refl
-item_one_or_two (some i) = event_one_or_two (written (shape i.kind) i.nums) (event_of i.kind i.nums)
+item_one_or_two None = inl refl
+item_one_or_two (Some i) = event_one_or_two (written (shape i.kind) i.nums) (event_of i.kind i.nums)
 
 end_one_or_two : (l : List ℕ) → Each OneOrTwo (says_at_end l)
 end_one_or_two [] = tt

@@ -1,6 +1,5 @@
 -- What `board` prints: events as lines in, answers as lines out. Every two lists of bytes have their text.
-use Rattle.std.specs.Prelude.{ℕ, List, [], ◌∷◌, Bool, true, false, ◌||◌, ltb, length}
-use Rattle.std.proofs.Math.Option.{Option, some, none}
+use Rattle.std.specs.Prelude.{ℕ, List, [], ◌∷◌, Bool, true, false, ◌||◌, ltb, length, Option, Some, None}
 use Rattle.laws.specs.Sums.{flat}
 use Rattle.laws.specs.Bytes.{pieces, is_nil}
 use Rattle.laws.specs.Decimal.{decimal}
@@ -44,42 +43,42 @@ board_after F = board_by (step F)
 
 -- the event that a line's kind and numbers say; none for a line of a plan
 unfoldable pub event_of : Kind → List ℕ → Option Event
-event_of PlanLine ns = none
-event_of PolicyPO ns = none
-event_of PolicyPN ns = none
-event_of PolicyDO ns = none
-event_of PolicyDN ns = none
-event_of VcpuLine ns = none
-event_of MutexG ns = none
-event_of MutexL ns = none
-event_of OpenLine ns = none
-event_of GuestLine ns = none
-event_of TaskLine ns = none
-event_of RunLine ns = none
-event_of LockLine ns = none
-event_of EndLine ns = none
+event_of PlanLine ns = None
+event_of PolicyPO ns = None
+event_of PolicyPN ns = None
+event_of PolicyDO ns = None
+event_of PolicyDN ns = None
+event_of VcpuLine ns = None
+event_of MutexG ns = None
+event_of MutexL ns = None
+event_of OpenLine ns = None
+event_of GuestLine ns = None
+event_of TaskLine ns = None
+event_of RunLine ns = None
+event_of LockLine ns = None
+event_of EndLine ns = None
 -- `ask v n m`
-event_of AskLine ns = some (Ask (nth 0 ns) (nth 1 ns) (nth 2 ns))
+event_of AskLine ns = Some (Ask (nth 0 ns) (nth 1 ns) (nth 2 ns))
 -- `free v n m`
-event_of FreeLine ns = some (Free (nth 0 ns) (nth 1 ns) (nth 2 ns))
+event_of FreeLine ns = Some (Free (nth 0 ns) (nth 1 ns) (nth 2 ns))
 -- `use v t`
-event_of UseLine ns = some (Use (nth 0 ns) (nth 1 ns))
+event_of UseLine ns = Some (Use (nth 0 ns) (nth 1 ns))
 -- `top v`
-event_of TopLine ns = some (Top (nth 0 ns))
+event_of TopLine ns = Some (Top (nth 0 ns))
 -- `show v n`
-event_of ShowLine ns = some (Show (nth 0 ns) (nth 1 ns))
+event_of ShowLine ns = Some (Show (nth 0 ns) (nth 1 ns))
 
 -- "An event line of wrong word or field count, or without LF, is refused 1, and one of wrong number form 2, before all else"
 -- (without LF: `at_end`)
 -- (a v, n or m out of range names nothing in the plan, so `step` refuses it 10)
 abbrev pub on_event : Facts → Board → Bool → Option Event → Outcome
-on_event F b ok none = refused b Shape
-on_event F b true (some e) = step F b e
-on_event F b false (some e) = refused b Number
+on_event F b ok None = refused b Shape
+on_event F b true (Some e) = step F b e
+on_event F b false (Some e) = refused b Number
 
 abbrev pub on_item : Facts → Board → Option Item → Outcome
-on_item F b none = refused b Shape
-on_item F b (some i) = on_event F b (written (shape i.kind) i.nums) (event_of i.kind i.nums)
+on_item F b None = refused b Shape
+on_item F b (Some i) = on_event F b (written (shape i.kind) i.nums) (event_of i.kind i.nums)
 
 unfoldable pub on_line : Facts → Board → List ℕ → Outcome
 on_line F b l = on_item F b (item_of l)

@@ -1,6 +1,5 @@
 -- What the lines of events say, whatever the board, and the answers of a run in the places of its lines.
-use Rattle.std.specs.Prelude.{ℕ, List, [], ◌∷◌, Bool, true, false}
-use Rattle.std.proofs.Math.Option.{Option, some, none}
+use Rattle.std.specs.Prelude.{ℕ, List, [], ◌∷◌, Bool, true, false, Option, Some, None}
 use Rattle.laws.specs.Bytes.{pieces, is_nil}
 use Rattle.plan.specs.Limits.{lf}
 use Rattle.plan.specs.declared.Refusal.{Refusal}
@@ -20,13 +19,13 @@ pub data LineSays : Type 0 where
 
 -- "An event line of wrong word or field count .. is refused 1, and one of wrong number form 2, before all else"
 abbrev pub event_says : Bool → Option Event → LineSays
-event_says ok none = NoEvent Shape
-event_says true (some e) = AnEvent e
-event_says false (some e) = NoEvent Number
+event_says ok None = NoEvent Shape
+event_says true (Some e) = AnEvent e
+event_says false (Some e) = NoEvent Number
 
 abbrev pub item_says : Option Item → LineSays
-item_says none = NoEvent Shape
-item_says (some i) = event_says (written (shape i.kind) i.nums) (event_of i.kind i.nums)
+item_says None = NoEvent Shape
+item_says (Some i) = event_says (written (shape i.kind) i.nums) (event_of i.kind i.nums)
 
 unfoldable pub says_of : List ℕ → LineSays
 says_of l = item_says (item_of l)

@@ -25,9 +25,7 @@ fn holds_good<'a>(view: &[u64], a: &'a [u16], ws: &'a [u8], v: u64, n: u64) -> b
     requires { (v ≤ 16) × (n ≤ 8) }
     ensures { result ≡ all_to 32 (λ m. hold_good view.now a.now ws.now v n m) }
 {
-    let mut m = 0;
-    while m < 32 {
-        m += 1;
+    for m in 1..=32 {
         if !hold_good(view, a, ws, v, n, m) {
             return false;
         }
@@ -62,9 +60,7 @@ fn tasks_good<'a>(view: &[u64], a: &'a [u16], ws: &'a [u8], v: u64) -> bool
     requires { v ≤ 16 }
     ensures { result ≡ tasks_good view.now a.now ws.now v }
 {
-    let mut n = 0;
-    while n < 8 {
-        n += 1;
+    for n in 1..=8 {
         if !task_good(view, a, ws, v, n) {
             return false;
         }
@@ -76,9 +72,7 @@ fn tasks_good<'a>(view: &[u64], a: &'a [u16], ws: &'a [u8], v: u64) -> bool
 pub fn all_tasks_good<'a>(view: &[u64], a: &'a [u16], ws: &'a [u8]) -> bool
     ensures { result ≡ all_to 16 (λ v. tasks_good view.now a.now ws.now v) }
 {
-    let mut v = 0;
-    while v < 16 {
-        v += 1;
+    for v in 1..=16 {
         if !tasks_good(view, a, ws, v) {
             return false;
         }
@@ -90,9 +84,7 @@ pub fn all_tasks_good<'a>(view: &[u64], a: &'a [u16], ws: &'a [u8]) -> bool
 pub fn seats_good(a: &[u16]) -> bool
     ensures { result ≡ all_to 32 (λ m. seat_good a.now m) }
 {
-    let mut m = 0;
-    while m < 32 {
-        m += 1;
+    for m in 1..=32 {
         if 128 < board_seats::holder(a, m) {
             return false;
         }
@@ -105,10 +97,8 @@ pub fn budgets(view: &[u64]) -> [u64; 16]
     ensures { result ≡ list_to 16 (λ v. budget_of view.now v) }
 {
     let mut all = [0u64; 16];
-    let mut v = 0;
-    while v < 16 {
+    for v in 0..16 {
         all[v] = board_seats::budget(view, v as u64 + 1);
-        v += 1;
     }
     all
 }
@@ -117,10 +107,8 @@ pub fn overruns(view: &[u64]) -> [u64; 16]
     ensures { result ≡ list_to 16 (λ v. overrun_of view.now v) }
 {
     let mut all = [0u64; 16];
-    let mut v = 0;
-    while v < 16 {
+    for v in 0..16 {
         all[v] = board_seats::overrun(view, v as u64 + 1);
-        v += 1;
     }
     all
 }

@@ -1,9 +1,8 @@
 -- A freed global mutex goes to the waiter with the highest VCPU, then the highest n; it is free only if nobody waited.
-use Rattle.std.specs.Prelude.{ℕ, ◌≡◌, refl, true}
+use Rattle.std.specs.Prelude.{ℕ, ◌≡◌, refl, true, Ok, Err}
 use Rattle.std.proofs.Math.Path.{ap}
 use Rattle.std.proofs.Common.{subst, ◌∙◌, arith}
-use Rattle.plan.specs.declared.Fault.{Fault}
-use Rattle.plan.specs.declared.Fault.TheVariants.{Clear, Bad}
+use Rattle.plan.specs.Refusals.{Fault}
 use Rattle.board_rules.specs.Facts.{Facts}
 use Rattle.board_rules.specs.declared.Board.{Board}
 use Rattle.board_rules.specs.declared.Event.TheVariants.{Free}
@@ -39,11 +38,11 @@ freed_to : (F : Facts) (b : Board) (v n m : ℕ) (x : Next) → F.global m ≡ t
 unfolding step freed freed_global
 freed_to F b v n m x e a = record { clear = free_clear F b v n m is_clear_law; next = is_next; board = rw (is_clear_law, e, is_next) }
   where
-    at_fault : (r : Fault) → (answered b r (freed F b v m)).answer ≡ Freed x → r ≡ Clear
-    at_fault Clear a = refl
-    at_fault (Bad r) a = absurd (let z : ◌≡◌ {A = ℕ} 0 1 = cc in omega arith)
+    at_fault : (r : Fault) → (answered b r (freed F b v m)).answer ≡ Freed x → r ≡ Ok tt
+    at_fault (Ok tt) a = refl
+    at_fault (Err r) a = absurd (let z : ◌≡◌ {A = ℕ} 0 1 = cc in omega arith)
 
-    is_clear_law : free_fault F b v n m ≡ Clear
+    is_clear_law : free_fault F b v n m ≡ Ok tt
     is_clear_law = at_fault (free_fault F b v n m) a
 
     is_next : next_global b m ≡ x

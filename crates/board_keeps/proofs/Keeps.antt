@@ -1,12 +1,11 @@
 -- A good board is good after every event, whatever is answered.
-use Rattle.std.specs.Prelude.{ℕ, ◌-◌, ◌≤◌, ◌≡◌, refl, Bool, true, false, List, ◌⊎◌, get_or, set}
+use Rattle.std.specs.Prelude.{ℕ, ◌-◌, ◌≤◌, ◌≡◌, refl, Bool, true, false, List, ◌⊎◌, get_or, set, Ok, Err}
 use Rattle.std.proofs.Common.{sym, ap, subst, ◌∙◌, inl, inr, ⊎_elim, arith}
 use Rattle.std.proofs.Math.Decide.{dec_le}
 use borrow.Author.Tests.{eqb-false}
 use Rattle.std.specs.Prelude.{if◌then◌else◌}
 use Rattle.laws.specs.BoolLaws.{clash, bool_cases, same_or_not, either_of}
-use Rattle.plan.specs.declared.Fault.{Fault}
-use Rattle.plan.specs.declared.Fault.TheVariants.{Clear, Bad}
+use Rattle.plan.specs.Refusals.{Fault}
 use Rattle.board_rules.specs.Facts.{Facts}
 use Rattle.board_rules.specs.declared.Board.{Board}
 use Rattle.board_rules.specs.declared.Event.{Event}
@@ -218,11 +217,11 @@ unfolding step asked freed freed_global freed_local used topped
 step_keeps {F} {b} f s g (Ask v n m) = at_fault (ask_fault F b v n m) refl
   where
     at_fault : (x : Fault) → ask_fault F b v n m ≡ x → good F (answered b x (asked F b v n m)).board ≡ true
-    at_fault Clear e = ⊎_elim
+    at_fault (Ok tt) e = ⊎_elim
         (λ h. rw h (settled_good f (ask_granted f s (good_sound F b g) v n m (ask_clear F b v n m e) h)))
         (λ h. rw h (settled_good f (ask_waits f s (good_sound F b g) v n m (ask_clear F b v n m e) h)))
         (bool_cases (may_have F b v n m))
-    at_fault (Bad r) e = g
+    at_fault (Err r) e = g
 step_keeps {F} {b} f s g (Free v n m) = at_fault (free_fault F b v n m) refl
   where
     at_kind : FreeClear F b v n m → (t : Bool) → F.global m ≡ t → good F (if t then freed_global F b m else freed_local F b v m).board ≡ true
@@ -234,20 +233,20 @@ step_keeps {F} {b} f s g (Free v n m) = at_fault (free_fault F b v n m) refl
         (f.sheet_local v n m ((good_sound F b g).holding.held_listed v n m i (f.task_in_law v n c.task) k c.held) e) (local_next F (with_holder b m 0) v))
 
     at_fault : (x : Fault) → free_fault F b v n m ≡ x → good F (answered b x (freed F b v m)).board ≡ true
-    at_fault Clear e = at_kind (free_clear F b v n m e) (F.global m) refl
-    at_fault (Bad r) e = g
+    at_fault (Ok tt) e = at_kind (free_clear F b v n m e) (F.global m) refl
+    at_fault (Err r) e = g
 step_keeps {F} {b} f s g (Use v t) = at_fault (use_fault F b v t) refl
   where
     at_fault : (x : Fault) → use_fault F b v t ≡ x → good F (answered b x (used F b v t)).board ≡ true
-    at_fault Clear e = settled_good f (use_sound f s (good_sound F b g) v t (f.vcpu_in v (use_clear F b v t e).vcpu))
-    at_fault (Bad r) e = g
+    at_fault (Ok tt) e = settled_good f (use_sound f s (good_sound F b g) v t (f.vcpu_in v (use_clear F b v t e).vcpu))
+    at_fault (Err r) e = g
 step_keeps {F} {b} f s g (Top v) = at_fault (top_fault F v) refl
   where
     at_fault : (x : Fault) → top_fault F v ≡ x → good F (answered b x (topped F b v)).board ≡ true
-    at_fault Clear e = settled_good f (top_sound f s (good_sound F b g) v (f.vcpu_in v (top_clear F v e)))
-    at_fault (Bad r) e = g
+    at_fault (Ok tt) e = settled_good f (top_sound f s (good_sound F b g) v (f.vcpu_in v (top_clear F v e)))
+    at_fault (Err r) e = g
 step_keeps {F} {b} f s g (Show v n) = at_fault (show_fault F v n)
   where
     at_fault : (x : Fault) → good F (answered b x (shown F b v n)).board ≡ true
-    at_fault Clear = g
-    at_fault (Bad r) = g
+    at_fault (Ok tt) = g
+    at_fault (Err r) = g

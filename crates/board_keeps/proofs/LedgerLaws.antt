@@ -1,5 +1,5 @@
 -- From a fresh board the ticks accepted for a VCPU since its last `top` are what its budget and overrun lack.
-use Rattle.std.specs.Prelude.{ℕ, ◌+◌, ◌-◌, ◌≤◌, ◌≡◌, Bool, true, false, ◌&&◌, List, [], ◌∷◌}
+use Rattle.std.specs.Prelude.{ℕ, ◌+◌, ◌-◌, ◌≤◌, ◌≡◌, Bool, true, false, ◌&&◌, List, [], ◌∷◌, Ok, Err}
 use Rattle.std.proofs.Math.Path.{refl}
 use Rattle.std.proofs.Common.{sym, subst, arith, le_trans, eq-eqb, ne_eqb}
 use Rattle.std.proofs.Math.Logic.{⊎_elim}
@@ -8,8 +8,7 @@ use Rattle.std.specs.Prelude.{if◌then◌else◌}
 use Rattle.laws.specs.BoolLaws.{bool_cases, same_or_not}
 use Rattle.plan.specs.declared.OverrunChoice.{OverrunChoice}
 use Rattle.plan.specs.declared.OverrunChoice.TheVariants.{WithOverrun, WithoutOverrun}
-use Rattle.plan.specs.declared.Fault.{Fault}
-use Rattle.plan.specs.declared.Fault.TheVariants.{Clear, Bad}
+use Rattle.plan.specs.Refusals.{Fault}
 use Rattle.board_rules.specs.Facts.{Facts}
 use Rattle.board_rules.specs.declared.Board.{Board}
 use Rattle.board_rules.specs.declared.Event.{Event}
@@ -81,28 +80,28 @@ module _ {F : Facts} {b : Board} (f : Fair F) (s : Shaped b) (v t : ℕ) (i : In
   step_balance (Ask w n m) = at_fault (ask_fault F b w n m)
     where
       at_fault : (x : Fault) → Balanced F (answered b x (asked F b w n m)).board v t
-      at_fault Clear = ⊎_elim (λ e. rw e h) (λ e. rw e h) (bool_cases (may_have F b w n m))
-      at_fault (Bad r) = h
+      at_fault (Ok tt) = ⊎_elim (λ e. rw e h) (λ e. rw e h) (bool_cases (may_have F b w n m))
+      at_fault (Err r) = h
   step_balance (Free w n m) = at_fault (free_fault F b w n m)
     where
       at_fault : (x : Fault) → Balanced F (answered b x (freed F b w m)).board v t
-      at_fault Clear = ⊎_elim (λ e. rw e (handed_balance m (next_global b m))) (λ e. rw e (granted_balance m (next_local F (with_holder b m 0) w))) (bool_cases (F.global m))
-      at_fault (Bad r) = h
+      at_fault (Ok tt) = ⊎_elim (λ e. rw e (handed_balance m (next_global b m))) (λ e. rw e (granted_balance m (next_local F (with_holder b m 0) w))) (bool_cases (F.global m))
+      at_fault (Err r) = h
   step_balance (Use w u) = at_fault (use_fault F b w u) refl
     where
       at_fault : (x : Fault) → use_fault F b w u ≡ x → Balanced F (answered b x (used F b w u)).board v (if accepted (answered b x (used F b w u)).answer && eqb w v then t + u else t)
-      at_fault Clear e = let c = use_clear F b w u e in use_balance w u (f.vcpu_in w c.vcpu) (le_trans c.enough (supply_le F b w))
-      at_fault (Bad r) e = h
+      at_fault (Ok tt) e = let c = use_clear F b w u e in use_balance w u (f.vcpu_in w c.vcpu) (le_trans c.enough (supply_le F b w))
+      at_fault (Err r) e = h
   step_balance (Top w) = at_fault (top_fault F w) refl
     where
       at_fault : (x : Fault) → top_fault F w ≡ x → Balanced F (answered b x (topped F b w)).board v (if accepted (answered b x (topped F b w)).answer && eqb w v then 0 else t)
-      at_fault Clear e = top_balance w (f.vcpu_in w (top_clear F w e))
-      at_fault (Bad r) e = h
+      at_fault (Ok tt) e = top_balance w (f.vcpu_in w (top_clear F w e))
+      at_fault (Err r) e = h
   step_balance (Show w n) = at_fault (show_fault F w n)
     where
       at_fault : (x : Fault) → Balanced F (answered b x (shown F b w n)).board v t
-      at_fault Clear = h
-      at_fault (Bad r) = h
+      at_fault (Ok tt) = h
+      at_fault (Err r) = h
 
 -- at every board of a run: the ticks, and what is left
 after_balance : {F : Facts} {b : Board} (f : Fair F) → Shaped b → (v t : ℕ) → InV v → Balanced F b v t → (es : List Event) →

@@ -1,13 +1,12 @@
 -- On a board that meets the conditions for 9 an event changes no mark but that of the VCPU that it names.
-use Rattle.std.specs.Prelude.{ℕ, ◌≡◌, Bool, ◌⊎◌}
+use Rattle.std.specs.Prelude.{ℕ, ◌≡◌, Bool, ◌⊎◌, Ok, Err}
 use Rattle.std.proofs.Math.Path.{refl}
 use Rattle.std.proofs.Common.{◌∙◌, inl, inr, length-set}
 use Rattle.std.proofs.Math.Bool.{true, false}
 use Rattle.std.proofs.Math.Logic.{⊎_elim}
 use Rattle.std.specs.Prelude.{if◌then◌else◌}
 use Rattle.laws.specs.BoolLaws.{bool_cases}
-use Rattle.plan.specs.declared.Fault.{Fault}
-use Rattle.plan.specs.declared.Fault.TheVariants.{Clear, Bad}
+use Rattle.plan.specs.Refusals.{Fault}
 use Rattle.board_rules.specs.Facts.{Facts}
 use Rattle.board_rules.specs.declared.Board.{Board}
 use Rattle.board_rules.specs.declared.Event.{Event}
@@ -27,14 +26,14 @@ module _ {F : Facts} {b : Board} (f : Fair F) (s : Shaped b) where
   own_ask v n m = at_fault (ask_fault F b v n m) refl
     where
       at_fault : (x : Fault) → ask_fault F b v n m ≡ x → OwnChange F v b (answered b x (asked F b v n m)).board
-      at_fault Clear e =
+      at_fault (Ok tt) e =
           let l = (ask_clear F b v n m e).listed in
           let i = sheet_v f v n m l in
           ⊎_elim
           (λ h. rw h (completes _ (holder_shaped m _ s) i (grant_keeps F b v n m (sheet_m f v n m l) h)))
           (λ h. rw h (completes _ (wait_shaped v n m s) i (wait_keeps F b v n m)))
           (bool_cases (may_have F b v n m))
-      at_fault (Bad r) e = stays
+      at_fault (Err r) e = stays
 
   own_free : (v n m : ℕ) → OwnChange F v b (step F b (Free v n m)).board
   unfolding step freed freed_global freed_local
@@ -49,34 +48,34 @@ module _ {F : Facts} {b : Board} (f : Fair F) (s : Shaped b) where
           (local_keeps F b v m (f.mutex_in m c.mutex) e (f.local_only v))
 
       at_fault : (x : Fault) → free_fault F b v n m ≡ x → OwnChange F v b (answered b x (freed F b v m)).board
-      at_fault Clear e = at_kind (free_clear F b v n m e) (F.global m) refl
-      at_fault (Bad r) e = stays
+      at_fault (Ok tt) e = at_kind (free_clear F b v n m e) (F.global m) refl
+      at_fault (Err r) e = stays
 
   own_use : (v t : ℕ) → OwnChange F v b (step F b (Use v t)).board
   unfolding step used
   own_use v t = at_fault (use_fault F b v t) refl
     where
       at_fault : (x : Fault) → use_fault F b v t ≡ x → OwnChange F v b (answered b x (used F b v t)).board
-      at_fault Clear e = let i = f.vcpu_in v (use_clear F b v t e).vcpu in completes _ (left_shaped v _ _ s) i (use_keeps F b v _ _ i)
-      at_fault (Bad r) e = stays
+      at_fault (Ok tt) e = let i = f.vcpu_in v (use_clear F b v t e).vcpu in completes _ (left_shaped v _ _ s) i (use_keeps F b v _ _ i)
+      at_fault (Err r) e = stays
 
   own_top : (v : ℕ) → OwnChange F v b (step F b (Top v)).board
   unfolding step topped
   own_top v = at_fault (top_fault F v) refl
     where
       at_fault : (x : Fault) → top_fault F v ≡ x → OwnChange F v b (answered b x (topped F b v)).board
-      at_fault Clear e =
+      at_fault (Ok tt) e =
           let i = f.vcpu_in v (top_clear F v e) in
           completes _ (stopped_shaped {b = with_left b v _ _} _ (length-set b.stopped _ _ ∙ s.stopped_long) (left_shaped {b = b} v _ _ s)) i (top_keeps F b v _ _ false i)
-      at_fault (Bad r) e = stays
+      at_fault (Err r) e = stays
 
   own_show : (v n : ℕ) → OwnChange F v b (step F b (Show v n)).board
   unfolding step
   own_show v n = at_fault (show_fault F v n)
     where
       at_fault : (x : Fault) → OwnChange F v b (answered b x (shown F b v n)).board
-      at_fault Clear = stays
-      at_fault (Bad r) = stays
+      at_fault (Ok tt) = stays
+      at_fault (Err r) = stays
 
   pub own_change : (e : Event) → OwnChange F (own_vcpu e) b (step F b e).board
   own_change (Ask v n m) = own_ask v n m

@@ -1,14 +1,12 @@
 -- From a fresh board no event is answered 9.
-use Rattle.std.specs.Prelude.{ℕ, ◌≡◌, Bool, true, false, ◌&&◌, not, List, [], ◌∷◌, leb}
+use Rattle.std.specs.Prelude.{ℕ, ◌≡◌, Bool, true, false, ◌&&◌, not, List, [], ◌∷◌, leb, Ok, Err}
 use Rattle.std.proofs.Common.{sym, ap, ◌∙◌, ⊎_elim, arith}
 use Rattle.laws.specs.BoolLaws.{bool_cases}
 use Rattle.laws.specs.Sums.{Each}
 use Rattle.plan.specs.Limits.{max_ticks}
 use Rattle.plan.specs.declared.Refusal.{Refusal}
 use Rattle.plan.specs.declared.Refusal.TheVariants.{Range, Foreign, Unknown, Unlisted, Asleep, Busy, NotHolder, Supply}
-use Rattle.plan.specs.declared.Fault.{Fault}
-use Rattle.plan.specs.declared.Fault.TheVariants.{Clear, Bad}
-use Rattle.plan.specs.Refusals.{unless, number_of}
+use Rattle.plan.specs.Refusals.{unless, number_of, Fault}
 use Rattle.plan.specs.Rules.{within}
 use Rattle.board_rules.specs.Facts.{Facts}
 use Rattle.board_rules.specs.declared.Board.{Board}
@@ -27,9 +25,9 @@ abbrev pub NotNine : BoardAnswer → Type 0
 NotNine a = a ≡ Refused Foreign → ⊥
 
 abbrev OtherFault : Fault → Type 0
-OtherFault f = f ≡ Bad Foreign → ⊥
+OtherFault f = f ≡ Err Foreign → ⊥
 
-clear_other : OtherFault Clear
+clear_other : OtherFault (Ok tt)
 clear_other e = let z : ◌≡◌ {A = ℕ} 0 1 = cc in omega arith
 
 unless_other : (t : Bool) (r : Refusal) (f : Fault) → (number_of r ≡ 9 → ⊥) → OtherFault f → OtherFault (unless t r f)
@@ -42,13 +40,13 @@ unfolding ask_fault number_of
 ask_other F b v n m =
     unless_other (F.has_task v n && F.has_mutex m) Unknown _ (λ e. omega arith)
     (unless_other (F.lists v n m) Unlisted _ (λ e. omega arith)
-    (unless_other (not (is_asleep F b v)) Asleep _ (λ e. omega arith) (unless_other (not (is_busy b v n)) Busy Clear (λ e. omega arith) clear_other)))
+    (unless_other (not (is_asleep F b v)) Asleep _ (λ e. omega arith) (unless_other (not (is_busy b v n)) Busy (Ok tt) (λ e. omega arith) clear_other)))
 
 free_other : (F : Facts) (b : Board) (v n m : ℕ) → OtherFault (free_fault F b v n m)
 unfolding free_fault number_of
 free_other F b v n m =
     unless_other (F.has_task v n && F.has_mutex m) Unknown _ (λ e. omega arith)
-    (unless_other (holds b v n m) NotHolder Clear (λ e. omega arith) clear_other)
+    (unless_other (holds b v n m) NotHolder (Ok tt) (λ e. omega arith) clear_other)
 
 use_other : (F : Facts) (b : Board) (v t : ℕ) → OtherFault (use_fault F b v t)
 unfolding use_fault number_of
@@ -56,19 +54,19 @@ use_other F b v t =
     unless_other (F.has_vcpu v) Unknown _ (λ e. omega arith)
     (unless_other (within t 1 max_ticks) Range _ (λ e. omega arith)
     (unless_other (not (is_asleep F b v)) Asleep _ (λ e. omega arith)
-    (unless_other (leb t (supply F b v)) Supply Clear (λ e. omega arith) clear_other)))
+    (unless_other (leb t (supply F b v)) Supply (Ok tt) (λ e. omega arith) clear_other)))
 
 top_other : (F : Facts) (v : ℕ) → OtherFault (top_fault F v)
 unfolding top_fault number_of
-top_other F v = unless_other (F.has_vcpu v) Unknown Clear (λ e. omega arith) clear_other
+top_other F v = unless_other (F.has_vcpu v) Unknown (Ok tt) (λ e. omega arith) clear_other
 
 show_other : (F : Facts) (v n : ℕ) → OtherFault (show_fault F v n)
 unfolding show_fault number_of
-show_other F v n = unless_other (F.has_task v n) Unknown Clear (λ e. omega arith) clear_other
+show_other F v n = unless_other (F.has_task v n) Unknown (Ok tt) (λ e. omega arith) clear_other
 
 answered_other : (b : Board) (f : Fault) (o : Outcome) → OtherFault f → NotNine o.answer → NotNine (answered b f o).answer
-answered_other b Clear o h k = k
-answered_other b (Bad r) o h k = λ e. h (let z : r ≡ Foreign = cc in ap Bad z)
+answered_other b (Ok tt) o h k = k
+answered_other b (Err r) o h k = λ e. h (let z : r ≡ Foreign = cc in ap Err z)
 
 -- `step` gives other answers
 pub step_not_nine : (F : Facts) (b : Board) (e : Event) → (step F b e).answer ≡ Refused Foreign → ⊥

@@ -1,12 +1,11 @@
 -- What an event that is not refused says of the plan and the board.
-use Rattle.std.specs.Prelude.{ℕ, ◌≤◌, ◌≡◌, true, false, ◌&&◌, not, eqb, leb}
+use Rattle.std.specs.Prelude.{ℕ, ◌≤◌, ◌≡◌, true, false, ◌&&◌, not, eqb, leb, Ok}
 use Rattle.std.proofs.Common.{⊎_elim, leb-true, eqb-true}
 use Rattle.std.proofs.lemmas.Bool.{eqb-false, not-true, not-false}
 use Rattle.laws.specs.RangeLaws.{none_at}
 use Rattle.laws.specs.BoolLaws.{both_left, both_right, neither_left, neither_right, clash, bool_cases}
 use Rattle.plan.specs.Limits.{max_m, max_ticks}
 use Rattle.plan.specs.declared.Refusal.TheVariants.{Range, Unknown, Unlisted, Asleep, Busy, NotHolder, Supply}
-use Rattle.plan.specs.declared.Fault.TheVariants.{Clear}
 use Rattle.plan.specs.Rules.{within}
 use Rattle.plan.specs.JudgeLaws.{clear_test, clear_rest}
 use Rattle.board_rules.specs.Facts.{Facts}
@@ -21,13 +20,13 @@ pub record AskClear (F : Facts) (b : Board) (v n m : ℕ) : Type 0 where
   pub no_wait : wait_of b v n ≡ 0
   pub no_hold : (k : ℕ) → InM k → holder_of b k ≡ seat v n → ⊥
 
-pub ask_clear : (F : Facts) (b : Board) (v n m : ℕ) → ask_fault F b v n m ≡ Clear → AskClear F b v n m
+pub ask_clear : (F : Facts) (b : Board) (v n m : ℕ) → ask_fault F b v n m ≡ Ok tt → AskClear F b v n m
 unfolding ask_fault is_busy
 ask_clear F b v n m e =
     let e1 = clear_rest (F.has_task v n && F.has_mutex m) Unknown _ e in
     let e2 = clear_rest (F.lists v n m) Unlisted _ e1 in
     let e3 = clear_rest (not (is_asleep F b v)) Asleep _ e2 in
-    let idle = not-true (is_busy b v n) (clear_test (not (is_busy b v n)) Busy Clear e3) in
+    let idle = not-true (is_busy b v n) (clear_test (not (is_busy b v n)) Busy (Ok tt) e3) in
     record {
       listed = clear_test (F.lists v n m) Unlisted _ e1;
       no_wait = eqb-true (wait_of b v n) 0 (not-false _ (neither_left (not (eqb (wait_of b v n) 0)) _ idle));
@@ -40,14 +39,14 @@ pub record FreeClear (F : Facts) (b : Board) (v n m : ℕ) : Type 0 where
   pub mutex : F.has_mutex m ≡ true
   pub held : holder_of b m ≡ seat v n
 
-pub free_clear : (F : Facts) (b : Board) (v n m : ℕ) → free_fault F b v n m ≡ Clear → FreeClear F b v n m
+pub free_clear : (F : Facts) (b : Board) (v n m : ℕ) → free_fault F b v n m ≡ Ok tt → FreeClear F b v n m
 unfolding free_fault
 free_clear F b v n m e =
     let t = clear_test (F.has_task v n && F.has_mutex m) Unknown _ e in
     record {
       task = both_left (F.has_task v n) _ t;
       mutex = both_right (F.has_task v n) _ t;
-      held = eqb-true (holder_of b m) (seat v n) (clear_test (holds b v n m) NotHolder Clear (clear_rest (F.has_task v n && F.has_mutex m) Unknown _ e));
+      held = eqb-true (holder_of b m) (seat v n) (clear_test (holds b v n m) NotHolder (Ok tt) (clear_rest (F.has_task v n && F.has_mutex m) Unknown _ e));
     }
 
 -- `use v t` is not refused: the VCPU is in the plan and has the ticks
@@ -55,7 +54,7 @@ pub record UseClear (F : Facts) (b : Board) (v t : ℕ) : Type 0 where
   pub vcpu : F.has_vcpu v ≡ true
   pub enough : t ≤ supply F b v
 
-pub use_clear : (F : Facts) (b : Board) (v t : ℕ) → use_fault F b v t ≡ Clear → UseClear F b v t
+pub use_clear : (F : Facts) (b : Board) (v t : ℕ) → use_fault F b v t ≡ Ok tt → UseClear F b v t
 unfolding use_fault
 use_clear F b v t e =
     let e1 = clear_rest (F.has_vcpu v) Unknown _ e in
@@ -63,12 +62,12 @@ use_clear F b v t e =
     let e3 = clear_rest (not (is_asleep F b v)) Asleep _ e2 in
     record {
       vcpu = clear_test (F.has_vcpu v) Unknown _ e;
-      enough = leb-true t (supply F b v) (clear_test (leb t (supply F b v)) Supply Clear e3);
+      enough = leb-true t (supply F b v) (clear_test (leb t (supply F b v)) Supply (Ok tt) e3);
     }
 
-pub top_clear : (F : Facts) (v : ℕ) → top_fault F v ≡ Clear → F.has_vcpu v ≡ true
+pub top_clear : (F : Facts) (v : ℕ) → top_fault F v ≡ Ok tt → F.has_vcpu v ≡ true
 unfolding top_fault
-top_clear F v e = clear_test (F.has_vcpu v) Unknown Clear e
+top_clear F v e = clear_test (F.has_vcpu v) Unknown (Ok tt) e
 
 -- A MUTEX THAT A TASK MAY HAVE IS FREE
 

@@ -1,10 +1,9 @@
 -- A refused event leaves the board as it was.
-use Rattle.std.specs.Prelude.{ℕ, ◌≡◌, refl}
+use Rattle.std.specs.Prelude.{ℕ, ◌≡◌, refl, Ok, Err}
 use Rattle.std.proofs.Common.{⊎_elim, arith}
 use Rattle.laws.specs.BoolLaws.{bool_cases}
 use Rattle.plan.specs.declared.Refusal.{Refusal}
-use Rattle.plan.specs.declared.Fault.{Fault}
-use Rattle.plan.specs.declared.Fault.TheVariants.{Clear, Bad}
+use Rattle.plan.specs.Refusals.{Fault}
 use Rattle.board_rules.specs.Facts.{Facts}
 use Rattle.board_rules.specs.declared.Board.{Board}
 use Rattle.board_rules.specs.declared.Event.{Event}
@@ -23,8 +22,8 @@ abbrev Told : BoardAnswer → Type 0
 Told a = (x : Refusal) → a ≡ Refused x → ⊥
 
 answered_leaves : (b : Board) (f : Fault) (o : Outcome) → Told o.answer → Leaves b (answered b f o)
-answered_leaves b Clear o h x e = absurd (h x e)
-answered_leaves b (Bad r) o h x e = refl
+answered_leaves b (Ok tt) o h x e = absurd (h x e)
+answered_leaves b (Err r) o h x e = refl
 
 -- a refused event leaves the board as it was
 pub step_leaves : (F : Facts) (b : Board) (e : Event) → Leaves b (step F b e)

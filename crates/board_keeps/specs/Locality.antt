@@ -1,11 +1,10 @@
 -- "An event on one VCPU's local mutexes changes no other VCPU's record and no global mutex": neither who holds it nor who waits for it.
-use Rattle.std.specs.Prelude.{ℕ, ◌≡◌, true, ◌↔◌}
+use Rattle.std.specs.Prelude.{ℕ, ◌≡◌, true, ◌↔◌, Ok, Err}
 use Rattle.std.proofs.Math.Path.{refl}
 use Rattle.std.proofs.Common.{sym, ap, ◌∙◌, arith}
 use Rattle.std.proofs.Math.Logic.{⊎_elim}
 use Rattle.laws.specs.BoolLaws.{clash, bool_cases, same_or_not}
-use Rattle.plan.specs.declared.Fault.{Fault}
-use Rattle.plan.specs.declared.Fault.TheVariants.{Clear, Bad}
+use Rattle.plan.specs.Refusals.{Fault}
 use Rattle.board_rules.specs.Facts.{Facts}
 use Rattle.board_rules.specs.declared.Board.{Board}
 use Rattle.board_rules.specs.declared.Event.TheVariants.{Ask, Free}
@@ -109,7 +108,7 @@ module _ {F : Facts} {b : Board} (f : Fair F) (s : Shaped b) (g : good F b ≡ t
   ask_local = at_fault (ask_fault F b v n m) refl
     where
       at_fault : (x : Fault) → ask_fault F b v n m ≡ x → Untouched F v b (answered b x (asked F b v n m)).board
-      at_fault Clear e =
+      at_fault (Ok tt) e =
           let c = ask_clear F b v n m e in
           let l = c.listed in
           let i = sheet_v f v n m l in
@@ -117,7 +116,7 @@ module _ {F : Facts} {b : Board} (f : Fair F) (s : Shaped b) (g : good F b ≡ t
           (λ h. rw h (settled_untouched v i (with_holder b m (seat v n)) (settle_grant F b s.stopped_long (good_marked F b g) v n m i (sheet_m f v n m l) h) (holder_untouched v i b m (seat v n) (sheet_m f v n m l) loc (untouched F v b))))
           (λ h. rw h (settled_untouched v i (with_wait b v n m) (settle_wait F b s.stopped_long (good_marked F b g) v n m i) (wait_untouched v i b n m s (sheet_n f v n m l) (λ k j g z. none_global F k j g (sym c.no_wait ∙ z)) (local_global f v m loc) (untouched F v b))))
           (bool_cases (may_have F b v n m))
-      at_fault (Bad r) e = untouched F v b
+      at_fault (Err r) e = untouched F v b
 
   pub free_local : Untouched F v b (step F b (Free v n m)).board
   unfolding step freed freed_local
@@ -133,12 +132,12 @@ module _ {F : Facts} {b : Board} (f : Fair F) (s : Shaped b) (g : good F b ≡ t
           (holder_untouched v i b m 0 (f.mutex_in m c.mutex) loc (untouched F v b)))
 
       at_fault : (x : Fault) → free_fault F b v n m ≡ x → Untouched F v b (answered b x (freed F b v m)).board
-      at_fault Clear e =
+      at_fault (Ok tt) e =
           let c = free_clear F b v n m e in
           let is_local_law = f.local_only v m loc in
           let i = task_v f v n c.task in
           rw is_local_law (settled_untouched v i _ (settle_local F b s.stopped_long (good_marked F b g) v m i (f.mutex_in m c.mutex) is_local_law (f.local_only v)) (to c (local_next F (with_holder b m 0) v)))
-      at_fault (Bad r) e = untouched F v b
+      at_fault (Err r) e = untouched F v b
 
 -- a task of another VCPU asks for a local mutex of v, or frees it: nothing changes
 module _ {F : Facts} (f : Fair F) (b : Board) (v w n m : ℕ) (loc : F.local_to v m ≡ true) (other : w ≡ v → ⊥) where
@@ -150,15 +149,15 @@ module _ {F : Facts} (f : Fair F) (b : Board) (v w n m : ℕ) (loc : F.local_to 
   ask_elsewhere = at_fault (ask_fault F b w n m) refl
     where
       at_fault : (x : Fault) → ask_fault F b w n m ≡ x → (answered b x (asked F b w n m)).board ≡ b
-      at_fault Clear e = absurd (not_listed (ask_clear F b w n m e).listed)
-      at_fault (Bad r) e = refl
+      at_fault (Ok tt) e = absurd (not_listed (ask_clear F b w n m e).listed)
+      at_fault (Err r) e = refl
 
   pub free_elsewhere : good F b ≡ true → (step F b (Free w n m)).board ≡ b
   unfolding step
   free_elsewhere g = at_fault (free_fault F b w n m) refl
     where
       at_fault : (x : Fault) → free_fault F b w n m ≡ x → (answered b x (freed F b w m)).board ≡ b
-      at_fault Clear e =
+      at_fault (Ok tt) e =
           let c = free_clear F b w n m e in
           absurd (not_listed ((good_sound F b g).holding.held_listed w n m (task_v f w n c.task) (f.task_in_law w n c.task) (f.mutex_in m c.mutex) c.held))
-      at_fault (Bad r) e = refl
+      at_fault (Err r) e = refl

@@ -1,11 +1,10 @@
 -- The lengths of a board's lists, which every event keeps.
-use Rattle.std.specs.Prelude.{ℕ, ◌-◌, ◌*◌, ◌≡◌, Bool, true, false, List, length}
+use Rattle.std.specs.Prelude.{ℕ, ◌-◌, ◌*◌, ◌≡◌, Bool, true, false, List, length, Ok, Err}
 use Rattle.std.proofs.Common.{◌∙◌, length-set}
 use Rattle.std.specs.Prelude.{if◌then◌else◌}
 use Rattle.laws.specs.RangeLaws.{list_length}
 use Rattle.plan.specs.Limits.{max_v, max_m, most_n}
-use Rattle.plan.specs.declared.Fault.{Fault}
-use Rattle.plan.specs.declared.Fault.TheVariants.{Clear, Bad}
+use Rattle.plan.specs.Refusals.{Fault}
 use Rattle.board_rules.specs.Facts.{Facts}
 use Rattle.board_rules.specs.declared.Board.{Board}
 use Rattle.board_rules.specs.declared.Event.{Event}
@@ -85,8 +84,8 @@ shaped_if true x y h k = h
 shaped_if false x y h k = k
 
 shaped_answered : {b : Board} (f : Fault) (o : Outcome) → Shaped b → Shaped o.board → Shaped (answered b f o).board
-shaped_answered Clear o s t = t
-shaped_answered (Bad r) o s t = s
+shaped_answered (Ok tt) o s t = t
+shaped_answered (Err r) o s t = s
 
 pub step_shaped : (F : Facts) {b : Board} (e : Event) → Shaped b → Shaped (step F b e).board
 unfolding step asked freed freed_global freed_local used topped

@@ -1,6 +1,6 @@
 -- Supply, marks, faults and conditions of one VCPU, on a board's arrays: t is the view, ls the budgets left, os the overruns left, ss the stopped marks,
 -- hs the holders, ws the waits.
-use Rattle.std.specs.Prelude.{ℕ, ◌+◌, ◌-◌, List, Bool, true, false, ◌&&◌, ◌||◌, not, eqb, leb, get_or}
+use Rattle.std.specs.Prelude.{ℕ, ◌+◌, ◌-◌, List, Bool, true, false, ◌&&◌, ◌||◌, not, eqb, leb, get_or, Ok}
 use Rattle.std.specs.Prelude.{if◌then◌else◌}
 use Rattle.laws.specs.Range.{any_to}
 use Rattle.plan.specs.Limits.{max_m, max_ticks}
@@ -9,9 +9,7 @@ use Rattle.plan.specs.declared.Policy.TheVariants.{Periodic, Deferrable}
 use Rattle.plan.specs.declared.OverrunChoice.{OverrunChoice}
 use Rattle.plan.specs.declared.OverrunChoice.TheVariants.{WithOverrun, WithoutOverrun}
 use Rattle.plan.specs.declared.Refusal.TheVariants.{Range, Unknown, Unlisted, Asleep, Busy, NotHolder, Supply}
-use Rattle.plan.specs.declared.Fault.{Fault}
-use Rattle.plan.specs.declared.Fault.TheVariants.{Clear}
-use Rattle.plan.specs.Refusals.{unless}
+use Rattle.plan.specs.Refusals.{unless, Fault}
 use Rattle.plan.specs.Rules.{within}
 use Rattle.board_seats.specs.Seats.{has_vcpu, budget_of, overrun_of, has_task, has_mutex, lists_it, holds_it, wait_at}
 use Rattle.board_walks.specs.Walks.{holds_global}
@@ -44,7 +42,7 @@ mark_by p ls ss v h = get_or ss (v - 1) false || (under_p p && (eqb (get_or ls (
 
 -- `use v t`: 10, 3, 12, 15; after 10, at the supply s
 abbrev pub tick_fault : ℕ → ℕ → Fault
-tick_fault s x = unless (within x 1 max_ticks) Range (unless (not (eqb s 0)) Asleep (unless (leb x s) Supply Clear))
+tick_fault s x = unless (within x 1 max_ticks) Range (unless (not (eqb s 0)) Asleep (unless (leb x s) Supply (Ok tt)))
 
 abbrev pub use_fault_at : OverrunChoice → List ℕ → List ℕ → List ℕ → List Bool → List ℕ → ℕ → ℕ → Fault
 use_fault_at c t ls os ss hs v x = unless (has_vcpu t v) Unknown (tick_fault (supply_at c t ls os ss hs v) x)
@@ -67,14 +65,14 @@ busy_at hs ws v n = not (eqb (wait_at ws v n) 0) || any_to max_m (λ m. holds_it
 -- `ask v n m`: 10, 11, 12, 13 in turn; after 10, at the supply s
 abbrev pub task_fault : ℕ → List ℕ → List ℕ → List ℕ → ℕ → ℕ → ℕ → Fault
 task_fault s t hs ws v n m =
-    unless (lists_it t v n m) Unlisted (unless (not (eqb s 0)) Asleep (unless (not (busy_at hs ws v n)) Busy Clear))
+    unless (lists_it t v n m) Unlisted (unless (not (eqb s 0)) Asleep (unless (not (busy_at hs ws v n)) Busy (Ok tt)))
 
 abbrev pub ask_fault_at : OverrunChoice → List ℕ → List ℕ → List ℕ → List Bool → List ℕ → List ℕ → ℕ → ℕ → ℕ → Fault
 ask_fault_at c t ls os ss hs ws v n m = unless (known t v n m) Unknown (task_fault (supply_at c t ls os ss hs v) t hs ws v n m)
 
 -- `free v n m`: 10, 14
 abbrev pub free_fault_at : List ℕ → List ℕ → ℕ → ℕ → ℕ → Fault
-free_fault_at t hs v n m = unless (known t v n m) Unknown (unless (holds_it hs v n m) NotHolder Clear)
+free_fault_at t hs v n m = unless (known t v n m) Unknown (unless (holds_it hs v n m) NotHolder (Ok tt))
 
 -- "b in 0..budget, o in 0..O, o below O only with b = 0"
 abbrev pub figures_good : ℕ → ℕ → ℕ → ℕ → Bool

@@ -1,20 +1,18 @@
 -- Laws of the rules of one VCPU.
-use Rattle.std.specs.Prelude.{ℕ, ◌+◌, ◌-◌, ◌≤◌, ◌<◌, min, ◌≡◌, refl, List, Bool, true, false, ◌&&◌, ◌||◌, not, eqb, ltb, leb, get_or}
+use Rattle.std.specs.Prelude.{ℕ, ◌+◌, ◌-◌, ◌≤◌, ◌<◌, min, ◌≡◌, refl, List, Bool, true, false, ◌&&◌, ◌||◌, not, eqb, ltb, leb, get_or, Ok, Err}
 use Rattle.std.proofs.Common.{sym, ap, ap₂, ◌∙◌, arith, eq-eqb, ne_eqb, eqb-true, le-leb, leb-true, leb-false}
 use Rattle.std.proofs.Math.Bool.{or-false}
 use Rattle.std.proofs.lemmas.Bool.{false≢true, eqb-false, lt-leb}
 use Rattle.laws.specs.BoolLaws.{both_left, both_right}
 use Rattle.std.specs.Prelude.{if◌then◌else◌}
 use Rattle.plan.specs.Limits.{max_ticks}
-use Rattle.plan.specs.Refusals.{unless}
+use Rattle.plan.specs.Refusals.{unless, Fault}
 use Rattle.plan.specs.Rules.{within}
 use Rattle.plan.specs.declared.Policy.{Policy}
 use Rattle.plan.specs.declared.Policy.TheVariants.{Deferrable}
 use Rattle.plan.specs.declared.OverrunChoice.{OverrunChoice}
 use Rattle.plan.specs.declared.OverrunChoice.TheVariants.{WithOverrun, WithoutOverrun}
 use Rattle.plan.specs.declared.Refusal.{Refusal}
-use Rattle.plan.specs.declared.Fault.{Fault}
-use Rattle.plan.specs.declared.Fault.TheVariants.{Clear, Bad}
 use Rattle.plan.proofs.RuleLaws.{in_range_law}
 use Rattle.board_seats.specs.Seats.{is_v, is_n, is_m, has_vcpu, has_task, has_mutex, task_at, owner_at}
 use Rattle.board_seats.specs.SeatLaws.{Ranges, ranges}
@@ -52,7 +50,7 @@ pub unless_yes : {c : Bool} (r : Refusal) (f : Fault) → c ≡ true → f ≡ u
 unfolding unless
 unless_yes r f e = rw e
 
-pub unless_no : {c : Bool} (r : Refusal) (f : Fault) → c ≡ false → Bad r ≡ unless c r f
+pub unless_no : {c : Bool} (r : Refusal) (f : Fault) → c ≡ false → Err r ≡ unless c r f
 unfolding unless
 unless_no r f e = rw e
 
@@ -94,7 +92,7 @@ none_counts true e = sym e
 none_counts false e = refl
 
 -- TICKS within what is left of the budget are within every supply
-pub fits_left : (l o x : ℕ) → (within x 1 max_ticks && leb x l) ≡ true → Clear ≡ tick_fault (l + o) x
+pub fits_left : (l o x : ℕ) → (within x 1 max_ticks && leb x l) ≡ true → Ok tt ≡ tick_fault (l + o) x
 unfolding unless
 fits_left l o x e =
     let w = both_left (within x 1 max_ticks) (leb x l) e in

@@ -14,12 +14,7 @@ use plan::OverrunChoice;
 fn capped(a: u64, b: u64) -> u64
     ensures { result ≡ min (a + b) max_ticks }
 {
-    if a < 1000000 {
-        if b < 1000000 - a {
-            return a + b;
-        }
-    }
-    1000000
+    a.saturating_add(b).min(1000000)
 }
 
 // The overrun that counts while a global mutex is held.

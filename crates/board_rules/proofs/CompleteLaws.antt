@@ -1,5 +1,5 @@
 -- An event that is completed for its own VCPU alone is complete, where no mark is due and lacking; by what a view says.
-use Rattle.std.specs.Prelude.{ℕ, ◌-◌, ◌≡◌, List, true, length, set}
+use Rattle.std.specs.Prelude.{ℕ, ◌-◌, ◌≡◌, List, true, length, set, Ok}
 use Rattle.std.proofs.Common.{ap, sym, ◌∙◌, eqb-true, length-set}
 use Rattle.std.proofs.Math.Bool.{false}
 use Rattle.plan.specs.Limits.{max_v}
@@ -7,7 +7,6 @@ use Rattle.plan.specs.JudgeLaws.{clear_test, clear_rest}
 use Rattle.plan.specs.declared.Policy.{Policy}
 use Rattle.plan.specs.declared.OverrunChoice.{OverrunChoice}
 use Rattle.plan.specs.declared.Refusal.TheVariants.{Unknown, NotHolder}
-use Rattle.plan.specs.declared.Fault.TheVariants.{Clear}
 use Rattle.board_seats.specs.Seats.{is_global, holds_it}
 use Rattle.board_reserves.specs.Supplies.{known, free_fault_at}
 use Rattle.board_reserves.specs.SupplyLaws.{known_range}
@@ -65,8 +64,8 @@ module _ (p : Policy) (o : OverrunChoice) (t : List ℕ) (b : Board) (s : length
   complete_local v m i j e = complete_one (facts_in p o t) _ _ v (settle_local (facts_in p o t) b s k v m i j (unfold facts_in in e) (view_local p o t v))
 
 -- WHO FREES a mutex holds it
-pub free_own : (t : List ℕ) (b : Board) (v n m : ℕ) → free_fault_at t b.holder v n m ≡ Clear → OwnHeld b v m
+pub free_own : (t : List ℕ) (b : Board) (v n m : ℕ) → free_fault_at t b.holder v n m ≡ Ok tt → OwnHeld b v m
 free_own t b v n m e =
     let r = known_range t v n m (clear_test (known t v n m) Unknown _ e) in
     own_held b v n m (in_v r.low_v r.high_v) (record { from = r.low_n; to = r.high_n })
-    (eqb-true (holder_of b m) (seat v n) (clear_test (holds_it b.holder v n m) NotHolder Clear (clear_rest (known t v n m) Unknown _ e)))
+    (eqb-true (holder_of b m) (seat v n) (clear_test (holds_it b.holder v n m) NotHolder (Ok tt) (clear_rest (known t v n m) Unknown _ e)))

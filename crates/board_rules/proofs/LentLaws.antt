@@ -1,5 +1,5 @@
 -- What an event writes into lent lists is the board after it, where no mark was due and lacking.
-use Rattle.std.specs.Prelude.{ℕ, ◌-◌, ◌<◌, ◌≡◌, refl, List, Bool, true, false, ◌||◌, ◌&&◌, not, eqb, get_or, set, length}
+use Rattle.std.specs.Prelude.{ℕ, ◌-◌, ◌<◌, ◌≡◌, refl, List, Bool, true, false, ◌||◌, ◌&&◌, not, eqb, get_or, set, length, Ok}
 use Rattle.std.proofs.Math.Path.{sym}
 use Rattle.std.proofs.Common.{ap, ap₂, ◌∙◌, arith, le-leb, ne_eqb, get_or-set_same}
 use Rattle.std.proofs.Math.Bool.{or-false}
@@ -8,7 +8,6 @@ use Rattle.laws.specs.BoolLaws.{miss_right}
 use Rattle.plan.specs.Limits.{max_v}
 use Rattle.plan.specs.declared.Policy.{Policy}
 use Rattle.plan.specs.declared.OverrunChoice.{OverrunChoice}
-use Rattle.plan.specs.declared.Fault.TheVariants.{Clear}
 use Rattle.plan.specs.JudgeLaws.{clear_test}
 use Rattle.board_seats.specs.Seats.{is_global, budget_of, overrun_of, has_vcpu}
 use Rattle.board_reserves.specs.Supplies.{next_mark, mark_by, budget_after, overrun_after, ask_fault_at, under_p, reserve, idle, use_fault_at}
@@ -86,7 +85,7 @@ module _ (p : Policy) (c : OverrunChoice) (t l o : List ℕ) (s : List Bool) (h 
         ∙ ap (set s (v - 1)) (sym (ap (λ x. get_or s (v - 1) false || x) (miss_right (under_p p) _ no-idle) ∙ or-false (get_or s (v - 1) false)))
 
     -- and the event is not refused
-    use_clear : use_fault_at c t l o s h v 1 ≡ Clear
+    use_clear : use_fault_at c t l o s h v 1 ≡ Ok tt
     use_clear =
         sym (unless_yes Unknown _ hv)
         ∙ sym (fits_left (get_or l (v - 1) 0) (reserve c (walks.holds_global t h v) (get_or s (v - 1) false) (get_or o (v - 1) 0)) 1 (le-leb 1 (get_or l (v - 1) 0) (omega arith)))
@@ -102,7 +101,7 @@ module _ (p : Policy) (c : OverrunChoice) (t l o : List ℕ) (s : List Bool) (h 
         over_still = omega arith
 
   -- `use v 1` that has no fault: the VCPU is in the plan, and its mark is settled by what is known of who holds a global mutex
-  module _ (v i : ℕ) (f : use_fault_at c t l o s h v 1 ≡ Clear) where
+  module _ (v i : ℕ) (f : use_fault_at c t l o s h v 1 ≡ Ok tt) where
     sure_vcpu : has_vcpu t v ≡ true
     sure_vcpu = clear_test _ _ _ f
 
@@ -133,7 +132,7 @@ module _ (p : Policy) (c : OverrunChoice) (t l o : List ℕ) (s : List Bool) (h 
   wait_told v j m e ew = rw ew (complete_wait p c t (board_of l o s h w) n k v j m e)
 
   -- `ask v j m` that has no fault: the names in it are in range, and it is granted or waits by whether the task may have m
-  module _ (v j m : ℕ) (f : ask_fault (facts_in p c t) (board_of l o s h w) v j m ≡ Clear) where
+  module _ (v j m : ℕ) (f : ask_fault (facts_in p c t) (board_of l o s h w) v j m ≡ Ok tt) where
     pub sure_range : Known v j m
     sure_range = known_range t v j m (unfold ask_fault facts_in in clear_test _ _ _ f)
 

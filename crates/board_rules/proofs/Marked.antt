@@ -1,5 +1,5 @@
 -- A board on which a mark stands where it is due stays one, event after event; and what a view says of names and mutexes.
-use Rattle.std.specs.Prelude.{ℕ, suc, ◌-◌, ◌<◌, ◌≡◌, List, Bool, true, false, ◌&&◌, eqb, ltb, get_or}
+use Rattle.std.specs.Prelude.{ℕ, suc, ◌-◌, ◌<◌, ◌≡◌, List, Bool, true, false, ◌&&◌, eqb, ltb, get_or, Ok, Err}
 use Rattle.std.proofs.Common.{sym, ap, subst, ◌∙◌, arith}
 use borrow.Author.Tests.{eqb-true, ltb-true}
 use Rattle.std.specs.Prelude.{if◌then◌else◌}
@@ -10,8 +10,7 @@ use Rattle.plan.specs.Limits.{max_v}
 use Rattle.plan.proofs.RuleLaws.{in_range_law}
 use Rattle.plan.specs.declared.Policy.{Policy}
 use Rattle.plan.specs.declared.OverrunChoice.{OverrunChoice}
-use Rattle.plan.specs.declared.Fault.{Fault}
-use Rattle.plan.specs.declared.Fault.TheVariants.{Clear, Bad}
+use Rattle.plan.specs.Refusals.{Fault}
 use Rattle.board_seats.specs.Seats as seats
 use Rattle.board_seats.specs.Seats.{is_v, is_m, owner_at, global_owner}
 use Rattle.board_rules.specs.Facts.{Facts}
@@ -35,8 +34,8 @@ fresh_marked F f v i e =
 -- ANY EVENT: one that is complete settles the board, a refused one and `show` leave it
 module _ (F : Facts) (b : Board) (k : Marked F b) where
   marked_answered : (f : Fault) (o : Outcome) → Marked F o.board → Marked F (answered b f o).board
-  marked_answered Clear o h = h
-  marked_answered (Bad r) o h = k
+  marked_answered (Ok tt) o h = h
+  marked_answered (Err r) o h = k
 
   marked_if : (c : Bool) (x y : Outcome) → Marked F x.board → Marked F y.board → Marked F (if c then x else y).board
   marked_if true x y h l = h

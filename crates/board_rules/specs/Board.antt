@@ -1,13 +1,11 @@
 -- The board: what it holds, its events, and the conditions for 9.
-use Rattle.std.specs.Prelude.{ℕ, ◌+◌, ◌-◌, ◌*◌, max, List, Bool, false, ◌&&◌, ◌||◌, not, eqb, ltb, leb, get_or, set}
+use Rattle.std.specs.Prelude.{ℕ, ◌+◌, ◌-◌, ◌*◌, max, List, Bool, false, ◌&&◌, ◌||◌, not, eqb, ltb, leb, get_or, set, Ok, Err}
 use Rattle.std.specs.Prelude.{if◌then◌else◌}
 use Rattle.laws.specs.Range.{any_to, all_to, highest, list_to}
 use Rattle.plan.specs.Limits.{max_v, max_m, most_n, max_ticks, task_raise, vcpu_raise}
 use Rattle.plan.specs.declared.Refusal.{Refusal}
 use Rattle.plan.specs.declared.Refusal.TheVariants.{Range, Foreign, Unknown, Unlisted, Asleep, Busy, NotHolder, Supply}
-use Rattle.plan.specs.declared.Fault.{Fault}
-use Rattle.plan.specs.declared.Fault.TheVariants.{Clear, Bad}
-use Rattle.plan.specs.Refusals.{unless}
+use Rattle.plan.specs.Refusals.{unless, Fault}
 use Rattle.plan.specs.Rules.{within}
 use Rattle.board_rules.specs.Facts.{Facts}
 pub use Rattle.board_seats.specs.Seats.{seat}
@@ -118,7 +116,7 @@ refused b r = record { answer = Refused r; board = b }
 unfoldable pub ask_fault : Facts → Board → ℕ → ℕ → ℕ → Fault
 ask_fault F b v n m =
     unless (F.has_task v n && F.has_mutex m) Unknown
-    (unless (F.lists v n m) Unlisted (unless (not (is_asleep F b v)) Asleep (unless (not (is_busy b v n)) Busy Clear)))
+    (unless (F.lists v n m) Unlisted (unless (not (is_asleep F b v)) Asleep (unless (not (is_busy b v n)) Busy (Ok tt))))
 
 -- G: granted if free, else waits. L: granted if n is above the ceiling of every local mutex of v held by other tasks, else waits
 unfoldable pub may_have : Facts → Board → ℕ → ℕ → ℕ → Bool
@@ -130,7 +128,7 @@ asked F b v n m =
 
 -- `free v n m`: 10, 14. Accepted asleep
 unfoldable pub free_fault : Facts → Board → ℕ → ℕ → ℕ → Fault
-free_fault F b v n m = unless (F.has_task v n && F.has_mutex m) Unknown (unless (holds b v n m) NotHolder Clear)
+free_fault F b v n m = unless (F.has_task v n && F.has_mutex m) Unknown (unless (holds b v n m) NotHolder (Ok tt))
 
 -- m goes to the next holder, who then waits no more, or is free
 abbrev pub handed_to : Board → ℕ → Next → Board
@@ -177,7 +175,7 @@ freed F b v m = if F.global m then freed_global F b m else freed_local F b v m
 unfoldable pub use_fault : Facts → Board → ℕ → ℕ → Fault
 use_fault F b v t =
     unless (F.has_vcpu v) Unknown
-    (unless (within t 1 max_ticks) Range (unless (not (is_asleep F b v)) Asleep (unless (leb t (supply F b v)) Supply Clear)))
+    (unless (within t 1 max_ticks) Range (unless (not (is_asleep F b v)) Asleep (unless (leb t (supply F b v)) Supply (Ok tt))))
 
 -- `left b o` of v
 abbrev pub left_answer : Board → ℕ → BoardAnswer
@@ -191,7 +189,7 @@ used F b v t =
 
 -- `top v`: 10. Budget and overrun full, mark cleared
 unfoldable pub top_fault : Facts → ℕ → Fault
-top_fault F v = unless (F.has_vcpu v) Unknown Clear
+top_fault F v = unless (F.has_vcpu v) Unknown (Ok tt)
 
 unfoldable pub topped : Facts → Board → ℕ → Outcome
 topped F b v =
@@ -200,7 +198,7 @@ topped F b v =
 
 -- `show v n`: 10
 unfoldable pub show_fault : Facts → ℕ → ℕ → Fault
-show_fault F v n = unless (F.has_task v n) Unknown Clear
+show_fault F v n = unless (F.has_task v n) Unknown (Ok tt)
 
 -- "8 + n holding a G mutex; holding an L mutex, the greatest of n and of the VCPU's local waiters not above that mutex's ceiling; else n"
 unfoldable pub held_global : Facts → Board → ℕ → ℕ → Bool
@@ -226,8 +224,8 @@ shown F b v n = record { answer = Shows (task_priority F b v n) (vcpu_priority F
 
 -- the outcome, unless there is a fault
 abbrev pub answered : Board → Fault → Outcome → Outcome
-answered b Clear o = o
-answered b (Bad r) o = refused b r
+answered b (Ok tt) o = o
+answered b (Err r) o = refused b r
 
 -- ONE EVENT on any board; `step_on` tests first that the board meets the conditions
 unfoldable pub step : Facts → Board → Event → Outcome

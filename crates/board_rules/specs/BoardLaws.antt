@@ -7,8 +7,7 @@ use Rattle.laws.specs.Range.{any_to, all_to, highest}
 use Rattle.laws.specs.RangeLaws.{none_at, none_of, highest_zero}
 use Rattle.plan.specs.Limits.{max_v, max_m, most_n}
 use Rattle.plan.specs.declared.Refusal.TheVariants.{Unknown}
-use Rattle.plan.specs.declared.Fault.{Fault}
-use Rattle.plan.specs.Refusals.{unless}
+use Rattle.plan.specs.Refusals.{unless, Fault}
 use Rattle.plan.specs.declared.Policy.{Policy}
 use Rattle.plan.specs.declared.OverrunChoice.{OverrunChoice}
 use Rattle.board_seats.specs.Seats as seats

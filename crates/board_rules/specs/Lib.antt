@@ -8,3 +8,4 @@ pub mod LocalNext
 pub mod Settle
 pub mod SettleEvents
 pub mod Lent
+pub mod PlanViews

@@ -1,7 +1,7 @@
 // The lock board. What its types mean, and the rules of its events, stand in specs/.
 #![tactic(auto)]
 
-ghost use Rattle.std.specs.Prelude.{◌≡◌, Bool, false, List, ℕ, ◌≤◌, length};
+ghost use Rattle.std.specs.Prelude.{◌≡◌, Bool, false, List, ℕ, ◌≤◌, length, Ok};
 ghost use Rattle.plan.specs.declared.Policy.{Policy};
 ghost use Rattle.plan.specs.declared.OverrunChoice.{OverrunChoice};
 ghost use Rattle.board_seats.specs.Seats.{is_global};
@@ -12,9 +12,18 @@ ghost use Rattle.board_rules.specs.Settle.{Marked};
 ghost use Rattle.board_rules.specs.SettleEvents.{OwnHeld};
 ghost use Rattle.board_rules.specs.Lent.{board_of, outcome_of};
 ghost use Rattle.board_rules.specs.Board.{refused, used, topped, step, ask_fault, may_have, handed_to, granted_local, next_of, freed, freed_global, freed_local, fresh, good};
+ghost use Rattle.board_rules.specs.PlanViews.{facts};
 
 use board_seats::{both, sub};
-use plan::{Fault, OverrunChoice, Policy, Refusal};
+use plan::{OverrunChoice, Policy, Refusal};
+
+// A plan as a board sees it: its policy, its overrun choice, and its view, the numbers of its facts.
+#[derive(Clone, Copy)]
+pub struct PlanView<'a> {
+    pub policy: Policy,
+    pub overrun: OverrunChoice,
+    pub view: &'a [u64],
+}
 
 // Per VCPU v, at place v - 1: budget left, overrun left, the stopped mark. Per mutex m, at place m - 1: the seat of its holder, 0 where it is free.
 // Per seat, at place seat - 1: the mutex that the task waits for, 0 for none. The seat of task (v, n) is (v - 1) * 8 + n.
@@ -217,9 +226,7 @@ fn freed(
 impl Board {
     // `use v t` on lent arrays: the answer, and the arrays as the event leaves them.
     pub fn use_in(
-        policy: Policy,
-        choice: OverrunChoice,
-        view: &[u64],
+        plan: &PlanView,
         left: &mut [u64],
         over: &mut [u64],
         stopped: &mut [bool],
@@ -227,41 +234,46 @@ impl Board {
         v: u64,
         t: u64,
     ) -> BoardAnswer
-        requires { (length left.old ≡ 16) × (length over.old ≡ 16) × (length stopped.old ≡ 16) × ((ws : List ℕ) → Marked (facts_in policy choice view.now) (board_of left.old over.old stopped.old holder.now ws)) }
-        ensures { (ws : List ℕ) → outcome_of result (board_of left.new over.new stopped.new holder.now ws) ≡ step (facts_in policy choice view.now) (board_of left.old over.old stopped.old holder.now ws) (Event.Use v t) }
+        requires { (length left.old ≡ 16) × (length over.old ≡ 16) × (length stopped.old ≡ 16) × ((ws : List ℕ) → Marked (facts plan.now) (board_of left.old over.old stopped.old holder.now ws)) }
+        ensures { (ws : List ℕ) → outcome_of result (board_of left.new over.new stopped.new holder.now ws) ≡ step (facts plan.now) (board_of left.old over.old stopped.old holder.now ws) (Event.Use v t) }
     {
-        let fault = board_puts::supply::use_fault(choice, view, left, over, stopped, holder, v, t);
+        let fault = board_puts::supply::use_fault(
+            plan.overrun,
+            plan.view,
+            left,
+            over,
+            stopped,
+            holder,
+            v,
+            t,
+        );
         match fault {
-            Fault::Clear => used(policy, view, left, over, stopped, holder, v, t),
-            Fault::Bad(k) => BoardAnswer::Refused(k),
+            Ok(()) => used(plan.policy, plan.view, left, over, stopped, holder, v, t),
+            Err(k) => BoardAnswer::Refused(k),
         }
     }
 
     // `top v` on lent arrays: budget and overrun of v full, its mark cleared.
     pub fn top_in(
-        policy: Policy,
-        choice: OverrunChoice,
-        view: &[u64],
+        plan: &PlanView,
         left: &mut [u64],
         over: &mut [u64],
         stopped: &mut [bool],
         holder: &[u16],
         v: u64,
     ) -> BoardAnswer
-        requires { (length left.old ≡ 16) × (length over.old ≡ 16) × (length stopped.old ≡ 16) × ((ws : List ℕ) → Marked (facts_in policy choice view.now) (board_of left.old over.old stopped.old holder.now ws)) }
-        ensures { (ws : List ℕ) → outcome_of result (board_of left.new over.new stopped.new holder.now ws) ≡ step (facts_in policy choice view.now) (board_of left.old over.old stopped.old holder.now ws) (Event.Top v) }
+        requires { (length left.old ≡ 16) × (length over.old ≡ 16) × (length stopped.old ≡ 16) × ((ws : List ℕ) → Marked (facts plan.now) (board_of left.old over.old stopped.old holder.now ws)) }
+        ensures { (ws : List ℕ) → outcome_of result (board_of left.new over.new stopped.new holder.now ws) ≡ step (facts plan.now) (board_of left.old over.old stopped.old holder.now ws) (Event.Top v) }
     {
-        if !board_seats::has_vcpu(view, v) {
+        if !board_seats::has_vcpu(plan.view, v) {
             return BoardAnswer::Refused(Refusal::Unknown);
         }
-        topped(view, left, over, stopped, v)
+        topped(plan.view, left, over, stopped, v)
     }
 
     // `ask v n m` on lent arrays, of an ask that has no fault: m goes to task (v, n) where it may have it, else the task waits.
     pub fn ask_sure(
-        policy: Policy,
-        choice: OverrunChoice,
-        view: &[u64],
+        plan: &PlanView,
         left: &[u64],
         over: &[u64],
         stopped: &[bool],
@@ -272,9 +284,9 @@ impl Board {
         m: u64,
         may: bool,
     ) -> BoardAnswer
-        requires stopped_len { (length stopped.now ≡ 16) × (length waits.old ≡ 128) × Marked (facts_in policy choice view.now) (board_of left.now over.now stopped.now holder.old waits.old) }
-        requires m_value { (ask_fault (facts_in policy choice view.now) (board_of left.now over.now stopped.now holder.old waits.old) v n m ≡ Fault.Clear) × (may ≡ may_have (facts_in policy choice view.now) (board_of left.now over.now stopped.now holder.old waits.old) v n m) }
-        ensures { outcome_of result (board_of left.now over.now stopped.now holder.new waits.new) ≡ step (facts_in policy choice view.now) (board_of left.now over.now stopped.now holder.old waits.old) (Event.Ask v n m) }
+        requires stopped_len { (length stopped.now ≡ 16) × (length waits.old ≡ 128) × Marked (facts plan.now) (board_of left.now over.now stopped.now holder.old waits.old) }
+        requires m_value { (ask_fault (facts plan.now) (board_of left.now over.now stopped.now holder.old waits.old) v n m ≡ Ok tt) × (may ≡ may_have (facts plan.now) (board_of left.now over.now stopped.now holder.old waits.old) v n m) }
+        ensures { outcome_of result (board_of left.now over.now stopped.now holder.new waits.new) ≡ step (facts plan.now) (board_of left.now over.now stopped.now holder.old waits.old) (Event.Ask v n m) }
     {
         if may {
             board_puts::put_holder(holder, m, board_seats::seat(v, n));
@@ -286,9 +298,7 @@ impl Board {
 
     // `ask v n m` on lent arrays: no mark changes, where none is due and lacking.
     pub fn ask_in(
-        policy: Policy,
-        choice: OverrunChoice,
-        view: &[u64],
+        plan: &PlanView,
         left: &[u64],
         over: &[u64],
         stopped: &[bool],
@@ -298,28 +308,33 @@ impl Board {
         n: u64,
         m: u64,
     ) -> BoardAnswer
-        requires { (length stopped.now ≡ 16) × (length waits.old ≡ 128) × Marked (facts_in policy choice view.now) (board_of left.now over.now stopped.now holder.old waits.old) }
-        ensures { outcome_of result (board_of left.now over.now stopped.now holder.new waits.new) ≡ step (facts_in policy choice view.now) (board_of left.now over.now stopped.now holder.old waits.old) (Event.Ask v n m) }
+        requires { (length stopped.now ≡ 16) × (length waits.old ≡ 128) × Marked (facts plan.now) (board_of left.now over.now stopped.now holder.old waits.old) }
+        ensures { outcome_of result (board_of left.now over.now stopped.now holder.new waits.new) ≡ step (facts plan.now) (board_of left.now over.now stopped.now holder.old waits.old) (Event.Ask v n m) }
     {
         let fault = board_puts::supply::ask_fault(
-            choice, view, left, over, stopped, holder, waits, v, n, m,
+            plan.overrun,
+            plan.view,
+            left,
+            over,
+            stopped,
+            holder,
+            waits,
+            v,
+            n,
+            m,
         );
         match fault {
-            Fault::Clear => {
-                let may = board_turns::may_have(view, holder, v, n, m);
-                Board::ask_sure(
-                    policy, choice, view, left, over, stopped, holder, waits, v, n, m, may,
-                )
+            Ok(()) => {
+                let may = board_turns::may_have(plan.view, holder, v, n, m);
+                Board::ask_sure(plan, left, over, stopped, holder, waits, v, n, m, may)
             }
-            Fault::Bad(k) => BoardAnswer::Refused(k),
+            Err(k) => BoardAnswer::Refused(k),
         }
     }
 
     // `free v n m` on lent arrays, of a free that has no fault: m goes to who is next.
     pub fn free_sure(
-        policy: Policy,
-        choice: OverrunChoice,
-        view: &[u64],
+        plan: &PlanView,
         left: &[u64],
         stopped: &mut [bool],
         holder: &mut [u16],
@@ -328,18 +343,16 @@ impl Board {
         n: u64,
         m: u64,
     ) -> BoardAnswer
-        requires stopped_len { (length stopped.old ≡ 16) × (length waits.old ≡ 128) × ((os : List ℕ) → Marked (facts_in policy choice view.now) (board_of left.now os stopped.old holder.old waits.old)) }
-        requires m_value { free_fault_at view.now holder.old v n m ≡ Fault.Clear }
-        ensures { (os : List ℕ) → outcome_of result (board_of left.now os stopped.new holder.new waits.new) ≡ step (facts_in policy choice view.now) (board_of left.now os stopped.old holder.old waits.old) (Event.Free v n m) }
+        requires stopped_len { (length stopped.old ≡ 16) × (length waits.old ≡ 128) × ((os : List ℕ) → Marked (facts plan.now) (board_of left.now os stopped.old holder.old waits.old)) }
+        requires m_value { free_fault_at plan.now.view.now holder.old v n m ≡ Ok tt }
+        ensures { (os : List ℕ) → outcome_of result (board_of left.now os stopped.new holder.new waits.new) ≡ step (facts plan.now) (board_of left.now os stopped.old holder.old waits.old) (Event.Free v n m) }
     {
-        freed(policy, view, left, stopped, holder, waits, v, m)
+        freed(plan.policy, plan.view, left, stopped, holder, waits, v, m)
     }
 
     // `free v n m` on lent arrays: the waiting marks are walked only where somebody waits for m.
     pub fn free_in(
-        policy: Policy,
-        choice: OverrunChoice,
-        view: &[u64],
+        plan: &PlanView,
         left: &[u64],
         stopped: &mut [bool],
         holder: &mut [u16],
@@ -348,15 +361,13 @@ impl Board {
         n: u64,
         m: u64,
     ) -> BoardAnswer
-        requires { (length stopped.old ≡ 16) × (length waits.old ≡ 128) × ((os : List ℕ) → Marked (facts_in policy choice view.now) (board_of left.now os stopped.old holder.old waits.old)) }
-        ensures { (os : List ℕ) → outcome_of result (board_of left.now os stopped.new holder.new waits.new) ≡ step (facts_in policy choice view.now) (board_of left.now os stopped.old holder.old waits.old) (Event.Free v n m) }
+        requires { (length stopped.old ≡ 16) × (length waits.old ≡ 128) × ((os : List ℕ) → Marked (facts plan.now) (board_of left.now os stopped.old holder.old waits.old)) }
+        ensures { (os : List ℕ) → outcome_of result (board_of left.now os stopped.new holder.new waits.new) ≡ step (facts plan.now) (board_of left.now os stopped.old holder.old waits.old) (Event.Free v n m) }
     {
-        let fault = board_puts::supply::free_fault(view, holder, v, n, m);
+        let fault = board_puts::supply::free_fault(plan.view, holder, v, n, m);
         match fault {
-            Fault::Clear => Board::free_sure(
-                policy, choice, view, left, stopped, holder, waits, v, n, m,
-            ),
-            Fault::Bad(k) => BoardAnswer::Refused(k),
+            Ok(()) => Board::free_sure(plan, left, stopped, holder, waits, v, n, m),
+            Err(k) => BoardAnswer::Refused(k),
         }
     }
 }
@@ -366,194 +377,111 @@ impl Board {
     pub fn refuse(self, k: Refusal) -> Outcome
         ensures { result ≡ refused self k }
     {
-        let a = BoardAnswer::Refused(k);
         Outcome {
-            answer: a,
+            answer: BoardAnswer::Refused(k),
             board: self,
         }
     }
 
     // `use v t`
-    pub fn use_on(
-        self,
-        policy: Policy,
-        choice: OverrunChoice,
-        view: &[u64],
-        v: u64,
-        t: u64,
-    ) -> Outcome
-        requires { Marked (facts_in policy choice view.now) self }
-        ensures { result ≡ step (facts_in policy choice view.now) self (Event.Use v t) }
+    pub fn use_on(self, plan: &PlanView, v: u64, t: u64) -> Outcome
+        requires { Marked (facts plan.now) self }
+        ensures { result ≡ step (facts plan.now) self (Event.Use v t) }
     {
-        let mut left = self.left;
-        let mut over = self.over;
-        let mut stopped = self.stopped;
-        let holder = self.holder;
-        let waits = self.waits;
+        let mut board = self;
         let answer = Board::use_in(
-            policy,
-            choice,
-            view,
-            &mut left,
-            &mut over,
-            &mut stopped,
-            &holder,
+            plan,
+            &mut board.left,
+            &mut board.over,
+            &mut board.stopped,
+            &board.holder,
             v,
             t,
         );
-        let board = Board {
-            left,
-            over,
-            stopped,
-            holder,
-            waits,
-        };
         Outcome { answer, board }
     }
 
     // `top v`
-    pub fn top_on(self, policy: Policy, choice: OverrunChoice, view: &[u64], v: u64) -> Outcome
-        requires { Marked (facts_in policy choice view.now) self }
-        ensures { result ≡ step (facts_in policy choice view.now) self (Event.Top v) }
+    pub fn top_on(self, plan: &PlanView, v: u64) -> Outcome
+        requires { Marked (facts plan.now) self }
+        ensures { result ≡ step (facts plan.now) self (Event.Top v) }
     {
-        let mut left = self.left;
-        let mut over = self.over;
-        let mut stopped = self.stopped;
-        let holder = self.holder;
-        let waits = self.waits;
+        let mut board = self;
         let answer = Board::top_in(
-            policy,
-            choice,
-            view,
-            &mut left,
-            &mut over,
-            &mut stopped,
-            &holder,
+            plan,
+            &mut board.left,
+            &mut board.over,
+            &mut board.stopped,
+            &board.holder,
             v,
         );
-        let board = Board {
-            left,
-            over,
-            stopped,
-            holder,
-            waits,
-        };
         Outcome { answer, board }
     }
 
     // `ask v n m`
-    pub fn ask_on(
-        self,
-        policy: Policy,
-        choice: OverrunChoice,
-        view: &[u64],
-        v: u64,
-        n: u64,
-        m: u64,
-    ) -> Outcome
-        requires { Marked (facts_in policy choice view.now) self }
-        ensures { result ≡ step (facts_in policy choice view.now) self (Event.Ask v n m) }
+    pub fn ask_on(self, plan: &PlanView, v: u64, n: u64, m: u64) -> Outcome
+        requires { Marked (facts plan.now) self }
+        ensures { result ≡ step (facts plan.now) self (Event.Ask v n m) }
     {
-        let left = self.left;
-        let over = self.over;
-        let stopped = self.stopped;
-        let mut holder = self.holder;
-        let mut waits = self.waits;
+        let mut board = self;
         let answer = Board::ask_in(
-            policy,
-            choice,
-            view,
-            &left,
-            &over,
-            &stopped,
-            &mut holder,
-            &mut waits,
+            plan,
+            &board.left,
+            &board.over,
+            &board.stopped,
+            &mut board.holder,
+            &mut board.waits,
             v,
             n,
             m,
         );
-        let board = Board {
-            left,
-            over,
-            stopped,
-            holder,
-            waits,
-        };
         Outcome { answer, board }
     }
 
     // `free v n m`
-    pub fn free_on(
-        self,
-        policy: Policy,
-        choice: OverrunChoice,
-        view: &[u64],
-        v: u64,
-        n: u64,
-        m: u64,
-    ) -> Outcome
-        requires { Marked (facts_in policy choice view.now) self }
-        ensures { result ≡ step (facts_in policy choice view.now) self (Event.Free v n m) }
+    pub fn free_on(self, plan: &PlanView, v: u64, n: u64, m: u64) -> Outcome
+        requires { Marked (facts plan.now) self }
+        ensures { result ≡ step (facts plan.now) self (Event.Free v n m) }
     {
-        let left = self.left;
-        let over = self.over;
-        let mut stopped = self.stopped;
-        let mut holder = self.holder;
-        let mut waits = self.waits;
+        let mut board = self;
         let answer = Board::free_in(
-            policy,
-            choice,
-            view,
-            &left,
-            &mut stopped,
-            &mut holder,
-            &mut waits,
+            plan,
+            &board.left,
+            &mut board.stopped,
+            &mut board.holder,
+            &mut board.waits,
             v,
             n,
             m,
         );
-        let board = Board {
-            left,
-            over,
-            stopped,
-            holder,
-            waits,
-        };
         Outcome { answer, board }
     }
 
     // `show v n`
-    pub fn show_on(
-        self,
-        policy: Policy,
-        choice: OverrunChoice,
-        view: &[u64],
-        v: u64,
-        n: u64,
-    ) -> BoardAnswer
-        ensures { result ≡ (step (facts_in policy choice view.now) self (Event.Show v n)).answer }
+    pub fn show_on(self, plan: &PlanView, v: u64, n: u64) -> BoardAnswer
+        ensures { result ≡ (step (facts plan.now) self (Event.Show v n)).answer }
     {
-        if !board_seats::has_task(view, v, n) {
+        if !board_seats::has_task(plan.view, v, n) {
             return BoardAnswer::Refused(Refusal::Unknown);
         }
-        let task = board_turns::task_priority(view, &self.holder, &self.waits, v, n);
-        let vcpu = board_turns::vcpu_priority(view, &self.holder, v);
+        let task = board_turns::task_priority(plan.view, &self.holder, &self.waits, v, n);
+        let vcpu = board_turns::vcpu_priority(plan.view, &self.holder, v);
         BoardAnswer::Shows { task, vcpu }
     }
 
     // The board breaks none of the conditions.
-    pub fn good(self, policy: Policy, choice: OverrunChoice, view: &[u64]) -> bool
-        ensures { result ≡ good (facts_in policy choice view.now) self }
+    pub fn good(self, plan: &PlanView) -> bool
+        ensures { result ≡ good (facts plan.now) self }
     {
         let vcpus = board_puts::supply::vcpus_good(
-            policy,
-            view,
+            plan.policy,
+            plan.view,
             &self.left,
             &self.over,
             &self.stopped,
             &self.holder,
         );
-        let tasks = board_good::all_tasks_good(view, &self.holder, &self.waits);
+        let tasks = board_good::all_tasks_good(plan.view, &self.holder, &self.waits);
         both(vcpus, both(tasks, board_good::seats_good(&self.holder)))
     }
 
@@ -561,31 +489,26 @@ impl Board {
     pub fn fresh(view: &[u64]) -> Board
         ensures { (p : Policy) (o : OverrunChoice) → result ≡ fresh (facts_in p o view.now) }
     {
-        let left = board_good::budgets(view);
-        let over = board_good::overruns(view);
-        let stopped = [false; 16];
-        let holder = [0u16; 32];
-        let waits = [0u8; 128];
         Board {
-            left,
-            over,
-            stopped,
-            holder,
-            waits,
+            left: board_good::budgets(view),
+            over: board_good::overruns(view),
+            stopped: [false; 16],
+            holder: [0; 32],
+            waits: [0; 128],
         }
     }
 
     // One event.
-    pub fn step_on(self, policy: Policy, choice: OverrunChoice, view: &[u64], e: Event) -> Outcome
-        requires { Marked (facts_in policy choice view.now) self }
-        ensures { result ≡ step (facts_in policy choice view.now) self e }
+    pub fn step_on(self, plan: &PlanView, e: Event) -> Outcome
+        requires { Marked (facts plan.now) self }
+        ensures { result ≡ step (facts plan.now) self e }
     {
         match e {
-            Event::Ask { v, n, m } => self.ask_on(policy, choice, view, v, n, m),
-            Event::Free { v, n, m } => self.free_on(policy, choice, view, v, n, m),
-            Event::Use { v, t } => self.use_on(policy, choice, view, v, t),
-            Event::Top { v } => self.top_on(policy, choice, view, v),
-            Event::Show { v, n } => self.shown(self.show_on(policy, choice, view, v, n)),
+            Event::Ask { v, n, m } => self.ask_on(plan, v, n, m),
+            Event::Free { v, n, m } => self.free_on(plan, v, n, m),
+            Event::Use { v, t } => self.use_on(plan, v, t),
+            Event::Top { v } => self.top_on(plan, v),
+            Event::Show { v, n } => self.shown(self.show_on(plan, v, n)),
         }
     }
 

@@ -12,7 +12,7 @@ use plan::within;
 pub fn sub(a: u64, b: u64) -> u64
     ensures { result ≡ a - b }
 {
-    if b <= a { a - b } else { 0 }
+    a.saturating_sub(b)
 }
 
 pub fn both(a: bool, b: bool) -> bool
@@ -55,8 +55,7 @@ fn wide16(x: u16) -> u64
 pub fn at(s: &[u64], i: u64) -> u64
     ensures { result ≡ get_or s.now i 0 }
 {
-    let k = i as usize;
-    if k < s.len() { s[k] } else { 0 }
+    s.get(i as usize).copied().unwrap_or(0)
 }
 
 // The seat of task (v, n), 1 to 128.
@@ -172,15 +171,13 @@ pub fn figure(a: &[u64], v: u64) -> u64
 pub fn mark(a: &[bool], v: u64) -> bool
     ensures { result ≡ get_or a.now (v - 1) false }
 {
-    let k = sub(v, 1) as usize;
-    if k < a.len() { a[k] } else { false }
+    a.get(sub(v, 1) as usize).copied().unwrap_or(false)
 }
 
 pub fn holder(a: &[u16], m: u64) -> u64
     ensures { result ≡ get_or a.now (m - 1) 0 }
 {
-    let k = sub(m, 1) as usize;
-    if k < a.len() { wide16(a[k]) } else { 0 }
+    wide16(a.get(sub(m, 1) as usize).copied().unwrap_or(0))
 }
 
 // The mutex that task (v, n) waits for, 0 for none, as the board keeps it and as a number.
@@ -188,8 +185,7 @@ pub fn kept_wait(a: &[u8], v: u64, n: u64) -> u8
     requires { (v ≤ 16) × (n ≤ 8) }
     ensures { result ≡ wait_at a.now v n }
 {
-    let k = sub(seat(v, n), 1) as usize;
-    if k < a.len() { a[k] } else { 0 }
+    a.get(sub(seat(v, n), 1) as usize).copied().unwrap_or(0)
 }
 
 pub fn wait(a: &[u8], v: u64, n: u64) -> u64

@@ -3,21 +3,23 @@
 
 ghost use Rattle.std.specs.Prelude.{◌≡◌, ◌≤◌};
 ghost use Rattle.laws.specs.Range.{all_to};
-ghost use Rattle.board_reserves.specs.Supplies.{under_p, idle, next_mark, tick_fault, use_fault_at, budget_after, overrun_after, known, busy_at, task_fault, ask_fault_at, free_fault_at, figures_good, mark_good_at, mark_by, vcpu_good_at};
+ghost use Rattle.board_reserves.specs.Supplies.{under_p, idle, next_mark, tick_fault, use_fault_at, known, busy_at, task_fault, ask_fault_at, free_fault_at, figures_good, mark_good_at, mark_by, vcpu_good_at};
 
 use board_seats::{both, either, no, pick, sub};
-use plan::{Fault, OverrunChoice, Policy, Refusal, unless, within};
+use plan::{OverrunChoice, Policy, Refusal, ensure, within};
 
 // The faults of `use` on a VCPU of the plan, at the supply s.
-fn tick_fault(s: u64, t: u64) -> Fault
+#[tactic(auto, unfolding(plan::specs::Refusals::unless))]
+fn tick_fault(s: u64, t: u64) -> Result<(), Refusal>
     ensures { result ≡ tick_fault s t }
 {
-    let short = unless(t <= s, Refusal::Supply, Fault::Clear);
-    let asleep = unless(no(s == 0), Refusal::Asleep, short);
-    unless(within(t, 1, 1000000), Refusal::Range, asleep)
+    ensure(within(t, 1, 1000000), Refusal::Range)?;
+    ensure(s != 0, Refusal::Asleep)?;
+    ensure(t <= s, Refusal::Supply)
 }
 
 // The faults of `use v t`: what is left of the budget is all the supply that most events need.
+#[tactic(auto, unfolding(plan::specs::Refusals::unless))]
 pub fn use_fault(
     choice: OverrunChoice,
     view: &[u64],
@@ -27,17 +29,15 @@ pub fn use_fault(
     holder: &[u16],
     v: u64,
     t: u64,
-) -> Fault
+) -> Result<(), Refusal>
     ensures { result ≡ use_fault_at choice view.now left.now over.now stopped.now holder.now v t }
 {
-    if board_seats::has_vcpu(view, v) {
-        if both(within(t, 1, 1000000), t <= board_seats::figure(left, v)) {
-            return Fault::Clear;
-        }
-        let s = board_reserves::supply(choice, view, left, over, stopped, holder, v);
-        return tick_fault(s, t);
+    ensure(board_seats::has_vcpu(view, v), Refusal::Unknown)?;
+    if both(within(t, 1, 1000000), t <= board_seats::figure(left, v)) {
+        return Ok(());
     }
-    Fault::Bad(Refusal::Unknown)
+    let s = board_reserves::supply(choice, view, left, over, stopped, holder, v);
+    tick_fault(s, t)
 }
 
 // VCPU v of the plan stands at 0, with no global mutex held by its tasks.
@@ -102,13 +102,22 @@ fn busy(holder: &[u16], waits: &[u8], v: u64, n: u64) -> bool
 }
 
 // The faults of `ask` by a task of the plan, at the supply s of its VCPU.
-fn task_fault(s: u64, view: &[u64], holder: &[u16], waits: &[u8], v: u64, n: u64, m: u64) -> Fault
+#[tactic(auto, unfolding(plan::specs::Refusals::unless))]
+fn task_fault(
+    s: u64,
+    view: &[u64],
+    holder: &[u16],
+    waits: &[u8],
+    v: u64,
+    n: u64,
+    m: u64,
+) -> Result<(), Refusal>
     requires { (v ≤ 16) × (n ≤ 8) }
     ensures { result ≡ task_fault s view.now holder.now waits.now v n m }
 {
-    let busy = unless(no(busy(holder, waits, v, n)), Refusal::Busy, Fault::Clear);
-    let asleep = unless(no(s == 0), Refusal::Asleep, busy);
-    unless(board_seats::lists(view, v, n, m), Refusal::Unlisted, asleep)
+    ensure(board_seats::lists(view, v, n, m), Refusal::Unlisted)?;
+    ensure(s != 0, Refusal::Asleep)?;
+    ensure(no(busy(holder, waits, v, n)), Refusal::Busy)
 }
 
 // The task (v, n) and the mutex m are in the plan.
@@ -122,6 +131,7 @@ fn known(view: &[u64], v: u64, n: u64, m: u64) -> bool
 }
 
 // The faults of `ask v n m`.
+#[tactic(auto, unfolding(plan::specs::Refusals::unless))]
 pub fn ask_fault(
     choice: OverrunChoice,
     view: &[u64],
@@ -133,25 +143,21 @@ pub fn ask_fault(
     v: u64,
     n: u64,
     m: u64,
-) -> Fault
+) -> Result<(), Refusal>
     ensures { result ≡ ask_fault_at choice view.now left.now over.now stopped.now holder.now waits.now v n m }
 {
-    if known(view, v, n, m) {
-        let s = board_reserves::supply(choice, view, left, over, stopped, holder, v);
-        return task_fault(s, view, holder, waits, v, n, m);
-    }
-    Fault::Bad(Refusal::Unknown)
+    ensure(known(view, v, n, m), Refusal::Unknown)?;
+    let s = board_reserves::supply(choice, view, left, over, stopped, holder, v);
+    task_fault(s, view, holder, waits, v, n, m)
 }
 
 // The faults of `free v n m`.
-pub fn free_fault(view: &[u64], holder: &[u16], v: u64, n: u64, m: u64) -> Fault
+#[tactic(auto, unfolding(plan::specs::Refusals::unless))]
+pub fn free_fault(view: &[u64], holder: &[u16], v: u64, n: u64, m: u64) -> Result<(), Refusal>
     ensures { result ≡ free_fault_at view.now holder.now v n m }
 {
-    if known(view, v, n, m) {
-        let held = board_seats::holds(holder, v, n, m);
-        return unless(held, Refusal::NotHolder, Fault::Clear);
-    }
-    Fault::Bad(Refusal::Unknown)
+    ensure(known(view, v, n, m), Refusal::Unknown)?;
+    ensure(board_seats::holds(holder, v, n, m), Refusal::NotHolder)
 }
 
 // Policy P holds.
@@ -225,9 +231,7 @@ pub fn vcpus_good<'a>(
 ) -> bool
     ensures { result ≡ all_to 16 (λ v. vcpu_good_at policy view.now left.now over.now stopped.now holder.now v) }
 {
-    let mut v = 0;
-    while v < 16 {
-        v += 1;
+    for v in 1..=16 {
         if !vcpu_good(policy, view, left, over, stopped, holder, v) {
             return false;
         }

@@ -1,5 +1,5 @@
 -- The board over lent tables: from a fresh board no event is answered 9, 9 is answered exactly where a test fails, and a refusal leaves the board as it was.
-use Rattle.std.specs.Prelude.{ℕ, ◌≡◌, refl, true, false, List, ◌⊎◌, ◌↔◌}
+use Rattle.std.specs.Prelude.{ℕ, ◌≡◌, refl, true, false, List, Ok, Err, ◌⊎◌, ◌↔◌}
 use Rattle.std.proofs.Common.{◌∙◌, true≢false, inl, inr, ⊎_elim, arith}
 use Rattle.laws.specs.Sums.{Each}
 use Rattle.laws.specs.BoolLaws.{clash, bool_cases}
@@ -24,7 +24,7 @@ use Rattle.board_keeps.proofs.Keeps.{step_keeps}
 use Rattle.board_keeps.proofs.Runs as runs
 use Rattle.board_keeps.proofs.NotNine.{step_not_nine, answers_not_nine, NotNine}
 use Rattle.board_keeps.proofs.Tested.{fresh_run}
-use Rattle.board_tables.specs.Entered.{Made, NoBoard, facts_from, no_board, fresh_for, step_for, run_for}
+use Rattle.board_tables.specs.Entered.{facts_from, no_board, fresh_for, step_for, run_for}
 
 -- a board that fails its test for 9
 pub tested_other : (F : Facts) (b : Board) (e : Event) → good F b ≡ false → step_on F b e ≡ refused b Foreign
@@ -45,7 +45,7 @@ step_on_nine F b e = ⊎_elim
 
 module _ (r : PlanRecord) (t : Tables) where
   -- TABLES THAT NO ACCEPTED PLAN GIVES
-  pub fresh_other : is_given r t ≡ false → fresh_for r t ≡ record { answer = NoBoard Foreign; board = no_board }
+  pub fresh_other : is_given r t ≡ false → fresh_for r t ≡ record { answer = Err Foreign; board = no_board }
   unfolding fresh_for
   fresh_other g = rw (g, fresh_for, if_given)
 
@@ -54,7 +54,7 @@ module _ (r : PlanRecord) (t : Tables) where
   step_other g b e = rw (g, step_for, if_given)
 
   -- TABLES THAT AN ACCEPTED PLAN GIVES
-  pub fresh_given : is_given r t ≡ true → fresh_for r t ≡ record { answer = Made; board = fresh (facts_from r t) }
+  pub fresh_given : is_given r t ≡ true → fresh_for r t ≡ record { answer = Ok tt; board = fresh (facts_from r t) }
   unfolding fresh_for
   fresh_given g = rw (g, fresh_for, if_given)
 
@@ -66,17 +66,17 @@ module _ (r : PlanRecord) (t : Tables) where
   fair_from g = fair (plan_in r t) (given_plan r t g).0
 
   -- MADE EXACTLY where an accepted plan gives the tables
-  pub fresh_made_exactly : ((fresh_for r t).answer ≡ Made) ↔ (is_given r t ≡ true)
+  pub fresh_made_exactly : ((fresh_for r t).answer ≡ Ok tt) ↔ (is_given r t ≡ true)
   fresh_made_exactly = ⊎_elim
       (λ g. rw (fresh_given g) ((λ q. g), (λ q. refl)))
       (λ g. rw (fresh_other g) ((λ q. absurd (let z : ◌≡◌ {A = ℕ} 0 1 = cc in omega arith)), (λ q. absurd (clash q g))))
       (bool_cases (is_given r t))
 
   -- a board that is made is of given tables, and is the board at first of the plan's facts
-  pub fresh_of : (fresh_for r t).answer ≡ Made → (is_given r t ≡ true) × ((fresh_for r t).board ≡ fresh (facts_from r t))
+  pub fresh_of : (fresh_for r t).answer ≡ Ok tt → (is_given r t ≡ true) × ((fresh_for r t).board ≡ fresh (facts_from r t))
   fresh_of e = let g = fresh_made_exactly.0 e in (g, rw (fresh_given g))
 
-  pub fresh_good : (fresh_for r t).answer ≡ Made → good (facts_from r t) (fresh_for r t).board ≡ true
+  pub fresh_good : (fresh_for r t).answer ≡ Ok tt → good (facts_from r t) (fresh_for r t).board ≡ true
   fresh_good e = let h = fresh_of e in rw h.1 (runs.fresh_good (fair_from h.0))
 
   -- an event keeps the conditions for 9 (a board's lists have the lengths of its arrays)
@@ -84,16 +84,16 @@ module _ (r : PlanRecord) (t : Tables) where
   step_good {b} g s h e = rw (step_given g b e, runs.step_on_law (facts_from r t) b h e) (step_keeps (fair_from g) s h e)
 
   -- event after event from the board that is made: the answers and the last board are those of the board's own rules
-  pub run_made : (fresh_for r t).answer ≡ Made → (es : List Event) → SameRun (step_for r t) (step (facts_from r t)) (fresh_for r t).board es
+  pub run_made : (fresh_for r t).answer ≡ Ok tt → (es : List Event) → SameRun (step_for r t) (step (facts_from r t)) (fresh_for r t).board es
   run_made e es =
       let h = fresh_of e in
       rw h.1 (fresh_run (fair_from h.0) (step_for r t) (λ b k x. step_given h.0 b x ∙ runs.step_on_law (facts_from r t) b k x) es)
 
-  pub run_answers : (fresh_for r t).answer ≡ Made → (es : List Event) → run_for r t (fresh_for r t).board es ≡ answers (facts_from r t) (fresh_for r t).board es
+  pub run_answers : (fresh_for r t).answer ≡ Ok tt → (es : List Event) → run_for r t (fresh_for r t).board es ≡ answers (facts_from r t) (fresh_for r t).board es
   run_answers e es = (run_made e es).0
 
   -- so that none is 9
-  pub never_nine : (fresh_for r t).answer ≡ Made → (es : List Event) → Each NotNine (run_for r t (fresh_for r t).board es)
+  pub never_nine : (fresh_for r t).answer ≡ Ok tt → (es : List Event) → Each NotNine (run_for r t (fresh_for r t).board es)
   never_nine e es = rw (run_answers e es) (answers_not_nine (facts_from r t) (fresh_for r t).board es)
 
   -- 9 EXACTLY where no accepted plan gives the tables, or the board breaks a condition

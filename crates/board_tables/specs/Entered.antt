@@ -1,5 +1,5 @@
 -- The board over lent tables: 9 for the tables (`if_given`), then 9 for the board (`step_on`), then the event's own refusals.
-use Rattle.std.specs.Prelude.{◌*◌, false, List}
+use Rattle.std.specs.Prelude.{◌*◌, false, List, Ok, Err}
 use Rattle.laws.specs.Range.{list_to}
 use Rattle.plan.specs.Limits.{max_v, max_m, most_n}
 use Rattle.plan.specs.declared.Refusal.TheVariants.{Foreign}
@@ -14,8 +14,6 @@ use Rattle.board_rules.specs.declared.BoardAnswer.{BoardAnswer}
 use Rattle.board_rules.specs.declared.Outcome.{Outcome}
 use Rattle.board_rules.specs.Board.{fresh, refused, step_on}
 use Rattle.board_events.specs.Events.{answers_by, board_by}
-pub use Rattle.board_tables.specs.declared.FreshAnswer.{FreshAnswer}
-pub use Rattle.board_tables.specs.declared.FreshAnswer.TheVariants.{Made, NoBoard}
 pub use Rattle.board_tables.specs.declared.FreshBoard.{FreshBoard}
 
 -- the facts of the plan in the tables
@@ -34,7 +32,7 @@ no_board = record {
 
 -- a board at first, for tables that an accepted plan gives
 unfoldable pub fresh_for : PlanRecord → Tables → FreshBoard
-fresh_for r t = if_given r t (λ p. record { answer = Made; board = fresh (facts_of (system p)) }) (record { answer = NoBoard Foreign; board = no_board })
+fresh_for r t = if_given r t (λ p. record { answer = Ok tt; board = fresh (facts_of (system p)) }) (record { answer = Err Foreign; board = no_board })
 
 -- one event on any board, over any tables
 unfoldable pub step_for : PlanRecord → Tables → Board → Event → Outcome

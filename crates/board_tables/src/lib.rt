@@ -1,30 +1,24 @@
 // The lock board over lent tables: any tables and any board get an answer. What it is stands in specs/Entered.
 #![tactic(auto)]
 
-ghost use Rattle.std.specs.Prelude.{◌≤◌, ◌≡◌, true, length};
+ghost use Rattle.std.specs.Prelude.{◌≤◌, ◌≡◌, true, length, Ok, Err};
 ghost use Rattle.plan_tables.specs.Given.{is_given};
 ghost use Rattle.plan_tables.specs.Layout.{lent};
 ghost use Rattle.board_rules.specs.View.{facts_in};
 ghost use Rattle.board_rules.specs.Board as board;
 ghost use Rattle.board_rules.specs.declared.Event as Event;
-ghost use Rattle.board_tables.specs.declared.FreshAnswer as FreshAnswer;
 ghost use Rattle.board_tables.specs.Entered.{facts_from, no_board, fresh_for, step_for};
+ghost use Rattle.board_rules.specs.PlanViews.{facts};
 
-use board_rules::{Board, BoardAnswer, Event, Outcome};
-use plan::{OverrunChoice, Policy, Refusal};
+use board_rules::{Board, BoardAnswer, Event, Outcome, PlanView};
+use figures_cells::PlanTables;
+use plan::Refusal;
 use plan_tables::PlanRecord;
 
-// Whether there is a board at first: made, or a refusal.
-#[derive(Clone, Copy)]
-pub enum FreshAnswer {
-    Made,
-    NoBoard(Refusal),
-}
-
-// The answer, and the board: a board of zeros where it is refused.
+// Whether there is a board at first, and the board: a board of zeros where it is refused.
 #[derive(Clone, Copy)]
 pub struct FreshBoard {
-    pub answer: FreshAnswer,
+    pub answer: Result<(), Refusal>,
     pub board: Board,
 }
 
@@ -46,7 +40,13 @@ fn fill_facts(r: PlanRecord, vt: &[u64], mt: &[u64], ot: &[u64], ts: &[u64], vie
     requires { (is_given r (lent vt.now mt.now ot.now ts.now) ≡ true) × (4320 ≤ length view.old) }
     ensures { facts_in r.policy r.overrun view.new ≡ facts_from r (lent vt.now mt.now ot.now ts.now) }
 {
-    board_views::fill_view(r, vt, mt, ts, view)
+    let t = PlanTables {
+        plan: r,
+        vcpus: vt,
+        mutexes: mt,
+        tasks: ts,
+    };
+    board_views::fill_view(&t, view)
 }
 
 // The board at first, of tables that an accepted plan gives.
@@ -61,22 +61,20 @@ fn first_board(r: PlanRecord, vt: &[u64], mt: &[u64], ot: &[u64], ts: &[u64]) ->
 
 // Made: the board at first is b.
 fn made(b: Board) -> FreshBoard
-    ensures { result ≡ record { answer = FreshAnswer.Made; board = b } }
+    ensures { result ≡ record { answer = Ok tt; board = b } }
 {
-    let a = FreshAnswer::Made;
     FreshBoard {
-        answer: a,
+        answer: Ok(()),
         board: b,
     }
 }
 
 // Refused: b stands where no board is made.
 fn not_made(b: Board, k: Refusal) -> FreshBoard
-    ensures { result ≡ record { answer = FreshAnswer.NoBoard k; board = b } }
+    ensures { result ≡ record { answer = Err k; board = b } }
 {
-    let a = FreshAnswer::NoBoard(k);
     FreshBoard {
-        answer: a,
+        answer: Err(k),
         board: b,
     }
 }
@@ -92,11 +90,11 @@ pub fn fresh(r: PlanRecord, vt: &[u64], mt: &[u64], ot: &[u64], ts: &[u64]) -> F
 }
 
 // One event, after the test of the board for 9.
-fn step_tested(b: Board, policy: Policy, choice: OverrunChoice, view: &[u64], e: Event) -> Outcome
-    ensures { result ≡ board.step_on (facts_in policy choice view.now) b e }
+fn step_tested(b: Board, plan: &PlanView, e: Event) -> Outcome
+    ensures { result ≡ board.step_on (facts plan.now) b e }
 {
-    if b.good(policy, choice, view) {
-        return b.step_on(policy, choice, view, e);
+    if b.good(plan) {
+        return b.step_on(plan, e);
     }
     b.refuse(Refusal::Foreign)
 }
@@ -116,9 +114,12 @@ fn step_given(
 {
     let mut view = [0u64; 4320];
     fill_facts(r, vt, mt, ot, ts, &mut view);
-    let policy = r.policy;
-    let choice = r.overrun;
-    step_tested(b, policy, choice, &view, e)
+    let plan = PlanView {
+        policy: r.policy,
+        overrun: r.overrun,
+        view: &view,
+    };
+    step_tested(b, &plan, e)
 }
 
 // One event: 9 for the tables, 9 for the board, then its own refusals; where it is refused, the board as it was.

@@ -30,10 +30,8 @@ pub fn awaited(waits: &[u8], w: u8) -> bool
     ensures { result ≡ awaited_at waits.now w }
 {
     let mut k: u8 = 0;
-    let mut i: usize = 0;
-    while i < 128 {
-        k += one(waits[i] == w);
-        i += 1;
+    for x in waits {
+        k += one(*x == w);
     }
     0 < k
 }

@@ -4,69 +4,62 @@
 ghost use Rattle.std.specs.Prelude.{◌≡◌, ◌<◌, get_or};
 ghost use Rattle.laws.specs.Range.{highest};
 ghost use Rattle.plan.specs.Lookup.{local_to};
-ghost use Rattle.figures.specs.Tabled.{Fit, system_in};
+ghost use Rattle.figures_cells.specs.Held.{system_of};
 ghost use Rattle.figures.specs.Figures.{vcpu_at, overrun_of};
 ghost use Rattle.figures.specs.Named.{has_task};
 ghost use Rattle.board_viewcells.specs.ViewOf.{bit, owner_of, view_of};
 
-use plan_tables::PlanRecord;
+use figures_cells::PlanTables;
 
 // The budget of VCPU v, 0 where there is no such VCPU.
-fn budget_of(r: PlanRecord, vt: &[u64], mt: &[u64], ts: &[u64], v: u64) -> u64
-    requires { Fit r vt.now mt.now ts.now }
-    ensures { result ≡ (vcpu_at (system_in r vt.now mt.now ts.now) v).budget }
+fn budget_of(t: &PlanTables, v: u64) -> u64
+    ensures { result ≡ (vcpu_at (system_of t.now) v).budget }
 {
-    let n = r.vcpus;
-    let a = figures_found::vcpu_row(r, vt, mt, ts, v);
+    let n = t.plan.vcpus;
+    let a = figures_found::vcpu_row(t, v);
     if n <= a {
         return 0;
     }
-    figures_cells::vcpu_cell(r, vt, mt, ts, a, 3)
+    t.vcpu_cell(a, 3)
 }
 
 // The overrun of VCPU v.
-fn overrun_of(r: PlanRecord, vt: &[u64], mt: &[u64], ts: &[u64], v: u64) -> u64
-    requires { Fit r vt.now mt.now ts.now }
-    ensures { result ≡ overrun_of (system_in r vt.now mt.now ts.now) v }
+fn overrun_of(t: &PlanTables, v: u64) -> u64
+    ensures { result ≡ overrun_of (system_of t.now) v }
 {
-    let o = r.overrun;
-    figures_named::overrun_by(o, figures_named::ght_of(r, vt, mt, ts, v))
+    let o = t.plan.overrun;
+    figures_named::overrun_by(o, figures_named::ght_of(t, v))
 }
 
 // The VCPU that m is local to, 0 for none.
-fn local_owner(r: PlanRecord, vt: &[u64], mt: &[u64], ts: &[u64], m: u64) -> u64
-    requires { Fit r vt.now mt.now ts.now }
-    ensures { result ≡ highest 16 (λ v. local_to (system_in r vt.now mt.now ts.now).mutexes v m) }
+fn local_owner(t: &PlanTables, m: u64) -> u64
+    ensures { result ≡ highest 16 (λ v. local_to (system_of t.now).mutexes v m) }
 {
-    let mut v: u64 = 16;
-    while 0 < v {
-        if figures_cells::is_local(r, vt, mt, ts, v, m) {
+    for v in (1..=16).rev() {
+        if t.is_local(v, m) {
             return v;
         }
-        v -= 1;
     }
     0
 }
 
 // The owner of mutex m.
-fn owner_of(r: PlanRecord, vt: &[u64], mt: &[u64], ts: &[u64], m: u64) -> u64
-    requires { Fit r vt.now mt.now ts.now }
-    ensures { result ≡ owner_of (system_in r vt.now mt.now ts.now) m }
+fn owner_of(t: &PlanTables, m: u64) -> u64
+    ensures { result ≡ owner_of (system_of t.now) m }
 {
-    if figures_cells::is_global(r, vt, mt, ts, m) {
+    if t.is_global(m) {
         17
     } else {
-        local_owner(r, vt, mt, ts, m)
+        local_owner(t, m)
     }
 }
 
 // Is there a task (v, n)?
-fn has_task(r: PlanRecord, vt: &[u64], mt: &[u64], ts: &[u64], v: u64, n: u64) -> bool
-    requires { Fit r vt.now mt.now ts.now }
-    ensures { result ≡ has_task (system_in r vt.now mt.now ts.now) v n }
+fn has_task(t: &PlanTables, v: u64, n: u64) -> bool
+    ensures { result ≡ has_task (system_of t.now) v n }
 {
-    let e = r.tasks;
-    figures_named::task_row(r, vt, mt, ts, v, n) < e
+    let e = t.plan.tasks;
+    figures_named::task_row(t, v, n) < e
 }
 
 // 1 where the test holds, else 0.
@@ -77,21 +70,21 @@ fn bit_of(t: bool) -> u64
 }
 
 // Number k of the view, before the sheets.
-pub fn view_cell(r: PlanRecord, vt: &[u64], mt: &[u64], ts: &[u64], k: u64) -> u64
-    requires { Fit r vt.now mt.now ts.now × (k < 224) }
-    ensures { result ≡ get_or (view_of (system_in r vt.now mt.now ts.now)) k 0 }
+pub fn view_cell(t: &PlanTables, k: u64) -> u64
+    requires { k < 224 }
+    ensures { result ≡ get_or (view_of (system_of t.now)) k 0 }
 {
     if k < 16 {
-        return budget_of(r, vt, mt, ts, k + 1);
+        return budget_of(t, k + 1);
     }
     if k < 32 {
-        return overrun_of(r, vt, mt, ts, k - 15);
+        return overrun_of(t, k - 15);
     }
     if k < 64 {
-        return owner_of(r, vt, mt, ts, k - 31);
+        return owner_of(t, k - 31);
     }
     if k < 96 {
-        return figures_sections::ceiling_of(r, vt, mt, ts, k - 63);
+        return figures_sections::ceiling_of(t, k - 63);
     }
-    bit_of(has_task(r, vt, mt, ts, (k - 96) / 8 + 1, (k - 96) % 8 + 1))
+    bit_of(has_task(t, (k - 96) / 8 + 1, (k - 96) % 8 + 1))
 }

@@ -39,6 +39,18 @@ module _ {n : ℕ} {f : ℕ → Bool} where
   pub lack_all : {i : ℕ} → Lack n f i → n ≤ i → false ≡ any_to n f
   lack_all h l = rw (le_antisymm l h.within) (sym h.is)
 
+  -- the same of a loop whose next number is m
+  pub lack_next : {b : Bool} {m : ℕ} → Lack n f (m - 1) → 1 ≤ m → m ≤ n → b ≡ f m → b ≡ false → Lack n f (m + 1 - 1)
+  lack_next {b} {m} h l t e k =
+      let z : m ≡ m - 1 + 1 = omega arith in
+      let y : m + 1 - 1 ≡ m - 1 + 1 = omega arith in
+      rw y (lack_more {i = m - 1} h (omega arith) (e ∙ ap f z) k)
+
+  pub lack_here : {b : Bool} {m : ℕ} → Lack n f (m - 1) → 1 ≤ m → m ≤ n → b ≡ f m → b ≡ true → true ≡ any_to n f
+  lack_here {b} {m} h l t e k =
+      let z : m ≡ m - 1 + 1 = omega arith in
+      lack_out {i = m - 1} h (omega arith) (e ∙ ap f z) k
+
   pub pass_none : Pass n f 0
   pass_none = record { within = omega arith; is = all_none f }
 
@@ -50,6 +62,18 @@ module _ {n : ℕ} {f : ℕ → Bool} where
 
   pub pass_all : {i : ℕ} → Pass n f i → n ≤ i → true ≡ all_to n f
   pass_all h l = rw (le_antisymm l h.within) (sym h.is)
+
+  -- the same of a loop whose next number is m
+  pub pass_next : {b : Bool} {m : ℕ} → Pass n f (m - 1) → 1 ≤ m → m ≤ n → b ≡ f m → not b ≡ false → Pass n f (m + 1 - 1)
+  pass_next {b} {m} h l t e k =
+      let z : m ≡ m - 1 + 1 = omega arith in
+      let y : m + 1 - 1 ≡ m - 1 + 1 = omega arith in
+      rw y (pass_more {i = m - 1} h (omega arith) (e ∙ ap f z) k)
+
+  pub pass_here : {b : Bool} {m : ℕ} → Pass n f (m - 1) → 1 ≤ m → m ≤ n → b ≡ f m → not b ≡ true → false ≡ all_to n f
+  pass_here {b} {m} h l t e k =
+      let z : m ≡ m - 1 + 1 = omega arith in
+      pass_out {i = m - 1} h (omega arith) (e ∙ ap f z) k
 
 module _ {A : Type 0} {d : A} {n : ℕ} {f : ℕ → A} where
   pub filled_none : {xs : List A} → length xs ≡ n → Filled d n f xs 0

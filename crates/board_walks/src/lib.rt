@@ -32,9 +32,7 @@ pub fn holds_global(view: &[u64], a: &[u16], v: u64) -> bool
     requires { v ≤ 16 }
     ensures { result ≡ holds_global view.now a.now v }
 {
-    let mut m = 0;
-    while m < 32 {
-        m += 1;
+    for m in 1..=32 {
         if global_by(view, a, v, m) {
             return true;
         }
@@ -58,9 +56,7 @@ pub fn passes(view: &[u64], a: &[u16], v: u64, n: u64) -> bool
     requires { (v ≤ 16) × (n ≤ 8) }
     ensures { result ≡ passes view.now a.now v n }
 {
-    let mut m = 0;
-    while m < 32 {
-        m += 1;
+    for m in 1..=32 {
         if !clears(view, a, v, n, m) {
             return false;
         }
@@ -73,12 +69,10 @@ pub fn last_held(a: &[u16], v: u64, n: u64) -> u64
     requires { (v ≤ 16) × (n ≤ 8) }
     ensures { result ≡ last_held a.now v n }
 {
-    let mut m = 32;
-    while 0 < m {
+    for m in (1..=32).rev() {
         if board_seats::holds(a, v, n, m) {
             return m;
         }
-        m -= 1;
     }
     0
 }
@@ -88,9 +82,7 @@ pub fn held_global(view: &[u64], a: &[u16], v: u64, n: u64) -> bool
     requires { (v ≤ 16) × (n ≤ 8) }
     ensures { result ≡ held_global view.now a.now v n }
 {
-    let mut m = 0;
-    while m < 32 {
-        m += 1;
+    for m in 1..=32 {
         if both(
             board_seats::is_global(view, m),
             board_seats::holds(a, v, n, m),
@@ -106,15 +98,13 @@ pub fn held_local(view: &[u64], a: &[u16], v: u64, n: u64) -> u64
     requires { (v ≤ 16) × (n ≤ 8) }
     ensures { result ≡ held_local view.now a.now v n }
 {
-    let mut m = 32;
-    while 0 < m {
+    for m in (1..=32).rev() {
         if both(
             board_seats::is_local(view, v, m),
             board_seats::holds(a, v, n, m),
         ) {
             return m;
         }
-        m -= 1;
     }
     0
 }
@@ -124,12 +114,10 @@ pub fn local_under(view: &[u64], a: &[u8], v: u64, cap: u64) -> u64
     requires { v ≤ 16 }
     ensures { (result ≡ local_under view.now a.now v cap) × (result ≤ 8) }
 {
-    let mut n = 8;
-    while 0 < n {
+    for n in (1..=8).rev() {
         if both(board_seats::local_waiter(view, a, v, n), n <= cap) {
             return n;
         }
-        n -= 1;
     }
     0
 }
@@ -140,10 +128,8 @@ pub fn row(a: &[u8], v: u64) -> [u8; 8]
     ensures { result ≡ row_of a.now v }
 {
     let mut row = [0u8; 8];
-    let mut n = 0;
-    while n < 8 {
+    for n in 0..8 {
         row[n] = board_seats::kept_wait(a, v, n as u64 + 1);
-        n += 1;
     }
     row
 }
@@ -153,10 +139,8 @@ pub fn rows(a: &[u8]) -> [[u8; 8]; 16]
 {
     let none = [0u8; 8];
     let mut rows = [none; 16];
-    let mut v = 0;
-    while v < 16 {
+    for v in 0..16 {
         rows[v] = row(a, v as u64 + 1);
-        v += 1;
     }
     rows
 }
@@ -165,12 +149,10 @@ pub fn rows(a: &[u8]) -> [[u8; 8]; 16]
 pub fn column(row: [u8; 8], w: u8) -> u64
     ensures { (result ≡ column_of row w) × (result ≤ 8) }
 {
-    let mut n: usize = 8;
-    while 0 < n {
-        if row[n - 1] == w {
-            return n as u64;
+    for n in (0..8).rev() {
+        if row[n] == w {
+            return n as u64 + 1;
         }
-        n -= 1;
     }
     0
 }
@@ -179,12 +161,10 @@ pub fn column(row: [u8; 8], w: u8) -> u64
 pub fn row_with(rows: [[u8; 8]; 16], w: u8) -> u64
     ensures { (result ≡ row_with rows w) × (result ≤ 16) }
 {
-    let mut v: usize = 16;
-    while 0 < v {
-        if 0 < column(rows[v - 1], w) {
-            return v as u64;
+    for v in (0..16).rev() {
+        if 0 < column(rows[v], w) {
+            return v as u64 + 1;
         }
-        v -= 1;
     }
     0
 }

@@ -1,5 +1,5 @@
 -- Demand 3 from the bytes: of a byte string that is accepted, each row of the plan that it says is reported by the calls on what the reading left.
-use Rattle.std.specs.Prelude.{ℕ, ◌≡◌, refl, Bool, true}
+use Rattle.std.specs.Prelude.{ℕ, ◌≡◌, refl, Bool, true, Ok, Err}
 use Rattle.std.proofs.Math.Path.{ap}
 use Rattle.std.proofs.Common.{sym, subst, ◌∙◌}
 use Rattle.std.proofs.Math.Bool.{false}
@@ -18,7 +18,6 @@ use Rattle.plan_tables.specs.declared.PlanRecord.{PlanRecord}
 use Rattle.plan_tables.specs.Layout.{Tables}
 use Rattle.plan_tables.specs.Given.{Gives, if_given}
 use Rattle.plan_tables.proofs.GivenLaws.{plan_given, given_exactly}
-use Rattle.read_answer.specs.declared.PlanAnswer.TheVariants.{Accepted}
 use Rattle.read_answer.specs.Into.{plan_answer, tables_after}
 use Rattle.read_answer.specs.Claims.{accepted_gives}
 use Rattle.records.specs.declared.Task as sheet
@@ -30,9 +29,6 @@ use Rattle.figures.specs.Figures.{response}
 use Rattle.figures.specs.Named.{has_task, task_at, lock_at, has_section, Placed}
 use Rattle.figures.proofs.NamedLaws.{vcpu_named, task_named, lock_named, has_task_exactly, section_exactly}
 use Rattle.figures.specs.Answers.{vcpu_answer, wait_answer, task_answer}
-use Rattle.answers_tasks.specs.declared.RowAnswer.TheVariants.{Row, NoRow}
-use Rattle.answers_tasks.specs.declared.TaskRowAnswer.TheVariants.{TaskRow, NoTaskRow}
-use Rattle.answers_tasks.specs.declared.FigureAnswer.TheVariants.{Figure, NoFigure}
 use Rattle.answers_tasks.specs.Asked.{has_place, vcpu_row_of, wait_row_of, task_row_of, response_row_of, vcpu_asked, wait_asked, task_asked, response_asked}
 use Rattle.claims.specs.Reported.{RowsReported}
 use Rattle.claims.proofs.Reports.{vcpu_answer_reports, wait_answer_reports, task_answer_reports}
@@ -47,13 +43,13 @@ module _ {A : Type 0} (x y : A) where
 
 module _ {p : Plan} (h : Valid p) where
   -- OF THE PLAN, by names
-  vcpu_there : (x : Vcpu) → Memᴰ x p.vcpus → vcpu_row_of (system p) x.v ≡ Row (vcpu_answer (system p) x)
+  vcpu_there : (x : Vcpu) → Memᴰ x p.vcpus → vcpu_row_of (system p) x.v ≡ Ok (vcpu_answer (system p) x)
   unfolding vcpu_row_of
-  vcpu_there x m = yes _ _ ((declared_exactly p.vcpus x.v).1 (x, m, refl)) ∙ ap (λ y. Row (vcpu_answer (system p) y)) (vcpu_named h x m)
+  vcpu_there x m = yes _ _ ((declared_exactly p.vcpus x.v).1 (x, m, refl)) ∙ ap (λ y. Ok (vcpu_answer (system p) y)) (vcpu_named h x m)
 
-  task_there : (k : Task) → Memᴰ k (tasks_of p.sections) → task_row_of (system p) k.v k.n ≡ TaskRow (task_answer (system p) k)
+  task_there : (k : Task) → Memᴰ k (tasks_of p.sections) → task_row_of (system p) k.v k.n ≡ Ok (task_answer (system p) k)
   unfolding task_row_of
-  task_there k m = yes _ _ ((has_task_exactly (system p) k.v k.n).1 (k, m, (refl, refl))) ∙ ap (λ y. TaskRow (task_answer (system p) y)) (task_named h k m)
+  task_there k m = yes _ _ ((has_task_exactly (system p) k.v k.n).1 (k, m, (refl, refl))) ∙ ap (λ y. Ok (task_answer (system p) y)) (task_named h k m)
 
   module _ (k : Task) (m : Memᴰ k (tasks_of p.sections)) (i : ℕ) (l : Lock) (q : Placed k.locks i l) (g : GlobalMutex p.mutexes l.m) where
     place_there : has_place (system p) k.v k.n i ≡ true
@@ -61,19 +57,19 @@ module _ {p : Plan} (h : Valid p) where
         both _ _ ((has_task_exactly (system p) k.v k.n).1 (k, m, (refl, refl)))
         (ap (λ (j : Task). has_section (system p) j i) (task_named h k m) ∙ (section_exactly (system p) k i).1 (l, q, g))
 
-    wait_there : wait_row_of (system p) k.v k.n i ≡ Row (wait_answer (system p) k l)
+    wait_there : wait_row_of (system p) k.v k.n i ≡ Ok (wait_answer (system p) k l)
     unfolding wait_row_of
     wait_there =
         yes _ _ place_there
-        ∙ ap (λ (j : Task). Row (wait_answer (system p) j (lock_at j i))) (task_named h k m)
-        ∙ ap (λ (x : Lock). Row (wait_answer (system p) k x)) (lock_named k i l q)
+        ∙ ap (λ (j : Task). Ok (wait_answer (system p) j (lock_at j i))) (task_named h k m)
+        ∙ ap (λ (x : Lock). Ok (wait_answer (system p) k x)) (lock_named k i l q)
 
-    response_there : response_row_of (system p) k.v k.n i ≡ Figure (response (system p) k l)
+    response_there : response_row_of (system p) k.v k.n i ≡ Ok (response (system p) k l)
     unfolding response_row_of
     response_there =
         yes _ _ place_there
-        ∙ ap (λ (j : Task). Figure (response (system p) j (lock_at j i))) (task_named h k m)
-        ∙ ap (λ (x : Lock). Figure (response (system p) k x)) (lock_named k i l q)
+        ∙ ap (λ (j : Task). Ok (response (system p) j (lock_at j i))) (task_named h k m)
+        ∙ ap (λ (x : Lock). Ok (response (system p) k x)) (lock_named k i l q)
 
   -- a place that is there is a global section of a task of the plan
   place_has :
@@ -93,31 +89,31 @@ module _ {p : Plan} {r : PlanRecord} {u : Tables} (h : Valid p) (q : Gives p r u
   pub given_reported : RowsReported p r u
   unfolding vcpu_asked wait_asked task_asked response_asked vcpu_row_of wait_row_of task_row_of response_row_of
   given_reported = record {
-    vcpus = λ x m. (vcpu_answer (system p) x, asked_of (λ y. vcpu_row_of (system y) x.v) (NoRow Foreign) ∙ vcpu_there h x m, vcpu_answer_reports (system p) x);
+    vcpus = λ x m. (vcpu_answer (system p) x, asked_of (λ y. vcpu_row_of (system y) x.v) (Err Foreign) ∙ vcpu_there h x m, vcpu_answer_reports (system p) x);
     waits =
         λ k m i l w g.
-        (wait_answer (system p) k l, asked_of (λ y. wait_row_of (system y) k.v k.n i) (NoRow Foreign) ∙ wait_there h k m i l w g, wait_answer_reports (system p) k l);
-    tasks = λ k m. (task_answer (system p) k, asked_of (λ y. task_row_of (system y) k.v k.n) (NoTaskRow Foreign) ∙ task_there h k m, task_answer_reports (system p) k);
-    responses = λ k m i l w g. asked_of (λ y. response_row_of (system y) k.v k.n i) (NoFigure Foreign) ∙ response_there h k m i l w g;
+        (wait_answer (system p) k l, asked_of (λ y. wait_row_of (system y) k.v k.n i) (Err Foreign) ∙ wait_there h k m i l w g, wait_answer_reports (system p) k l);
+    tasks = λ k m. (task_answer (system p) k, asked_of (λ y. task_row_of (system y) k.v k.n) (Err Foreign) ∙ task_there h k m, task_answer_reports (system p) k);
+    responses = λ k m i l w g. asked_of (λ y. response_row_of (system y) k.v k.n i) (Err Foreign) ∙ response_there h k m i l w g;
     no_vcpu_law =
-        λ v n. asked_of (λ y. vcpu_row_of (system y) v) (NoRow Foreign) ∙ no_so _ _ (is_false (has_vcpu p.vcpus v) (λ e. n ((declared_exactly p.vcpus v).0 e)));
+        λ v n. asked_of (λ y. vcpu_row_of (system y) v) (Err Foreign) ∙ no_so _ _ (is_false (has_vcpu p.vcpus v) (λ e. n ((declared_exactly p.vcpus v).0 e)));
     no_task_law =
-        λ v n e. asked_of (λ y. task_row_of (system y) v n) (NoTaskRow Foreign) ∙ no_so _ _ (is_false (has_task (system p) v n) (λ b. e ((has_task_exactly (system p) v n).0 b)));
+        λ v n e. asked_of (λ y. task_row_of (system y) v n) (Err Foreign) ∙ no_so _ _ (is_false (has_task (system p) v n) (λ b. e ((has_task_exactly (system p) v n).0 b)));
     no_place =
         λ v n i e.
         let none : has_place (system p) v n i ≡ false = is_false (has_place (system p) v n i) (λ b. e (place_has h v n i b)) in (
-          asked_of (λ y. wait_row_of (system y) v n i) (NoRow Foreign) ∙ no_so _ _ none,
-          asked_of (λ y. response_row_of (system y) v n i) (NoFigure Foreign) ∙ no_so _ _ none,
+          asked_of (λ y. wait_row_of (system y) v n i) (Err Foreign) ∙ no_so _ _ none,
+          asked_of (λ y. response_row_of (system y) v n i) (Err Foreign) ∙ no_so _ _ none,
         );
   }
 
 -- FROM THE BYTES: into rows of numbers, and into records
 pub accepted_reported :
-    (s : List ℕ) (t : Tables) (r : PlanRecord) → plan_answer s t ≡ Accepted r → (p : Plan) × (reading s ≡ Accepts p) × RowsReported p r (tables_after s t)
+    (s : List ℕ) (t : Tables) (r : PlanRecord) → plan_answer s t ≡ Ok r → (p : Plan) × (reading s ≡ Accepts p) × RowsReported p r (tables_after s t)
 accepted_reported s t r e = let w = accepted_gives s t r e in (w.0, w.1, given_reported w.2 w.3)
 
 pub sheet_reported :
-    (s vt mt ot : List ℕ) (ks : List sheet.Task) (r : PlanRecord) → plan_answer s (tables_of vt mt ot ks) ≡ Accepted r →
+    (s vt mt ot : List ℕ) (ks : List sheet.Task) (r : PlanRecord) → plan_answer s (tables_of vt mt ot ks) ≡ Ok r →
     let u : Tables = tables_after s (tables_of vt mt ot ks) in
     (p : Plan) × (reading s ≡ Accepts p) × RowsReported p r (tables_of u.vcpus u.mutexes u.opens (sheets_after s vt mt ot ks))
 sheet_reported s vt mt ot ks r e =

@@ -1,5 +1,5 @@
 -- Demand 3 (Reported) of what the calls answer (answers_tasks/Asked).
-use Rattle.std.specs.Prelude.{ℕ, ◌≡◌, refl, Bool, true, false, ◌↔◌, eqb}
+use Rattle.std.specs.Prelude.{ℕ, ◌≡◌, refl, Bool, true, false, ◌↔◌, eqb, Ok, Err}
 use Rattle.std.proofs.Math.Path.{ap}
 use Rattle.std.proofs.Common.{sym, ◌∙◌, true≢false, arith, eqb-true, eq-eqb, ltb-true, lt-ltb}
 use Rattle.std.proofs.lemmas.Bool.{false≢true}
@@ -30,9 +30,6 @@ use Rattle.figures.proofs.Demands.{vcpu_demand_law, wait_demand_law, task_demand
 use Rattle.figures.specs.declared.TaskAnswer.{TaskAnswer}
 use Rattle.figures.specs.declared.TaskAnswer.TheVariants.{Searched, NoWait, Held}
 use Rattle.figures.specs.Answers.{vcpu_answer, wait_answer, task_answer, ticks_of, is_late, remote_waits, lacks_wait, is_held}
-use Rattle.answers_tasks.specs.declared.RowAnswer.TheVariants.{Row, NoRow}
-use Rattle.answers_tasks.specs.declared.TaskRowAnswer.TheVariants.{TaskRow, NoTaskRow}
-use Rattle.answers_tasks.specs.declared.FigureAnswer.TheVariants.{Figure, NoFigure}
 use Rattle.claims.specs.Reported.{system_from, HasNumber, Reports, NoNumber, HeldUp, VcpuReported, WaitReported, TaskReported}
 use Rattle.answers_tasks.specs.Asked.{has_place, vcpu_row_of, wait_row_of, task_row_of, response_row_of, vcpu_asked, wait_asked, task_asked, response_asked}
 
@@ -129,29 +126,29 @@ module _ {A : Type 0} (x un no : A) where
   yes_asked : {g h : Bool} → g ≡ true → h ≡ true → elim g [ true ↦ elim h [ true ↦ x | false ↦ un ] | false ↦ no ] ≡ x
   yes_asked p q = rw (p, q)
 
-not_row : (r : Refusal) (a : Answer) → ¬ (NoRow r ≡ Row a)
+not_row : (r : Refusal) (a : Answer) → ¬ (Err r ≡ Ok a)
 not_row r a e = let z : ◌≡◌ {A = ℕ} 0 1 = cc in omega arith
 
-not_task : (r : Refusal) (a : TaskAnswer) → ¬ (NoTaskRow r ≡ TaskRow a)
+not_task : (r : Refusal) (a : TaskAnswer) → ¬ (Err r ≡ Ok a)
 not_task r a e = let z : ◌≡◌ {A = ℕ} 0 1 = cc in omega arith
 
-not_figure : (r : Refusal) (x : ℕ) → ¬ (NoFigure r ≡ Figure x)
+not_figure : (r : Refusal) (x : ℕ) → ¬ (Err r ≡ Ok x)
 not_figure r x e = let z : ◌≡◌ {A = ℕ} 0 1 = cc in omega arith
 
 module _ (r : PlanRecord) (t : Tables) (v : ℕ) where
   vcpu_answered :
-      (a : Answer) → vcpu_asked r t v ≡ Row a →
+      (a : Answer) → vcpu_asked r t v ≡ Ok a →
       (is_given r t ≡ true) × (has_vcpu (system_from r t).vcpus v ≡ true) × (vcpu_answer (system_from r t) (vcpu_at (system_from r t) v) ≡ a)
   unfolding vcpu_asked vcpu_row_of
   vcpu_answered a e =
-      let x = asked_yes _ _ _ _ _ (Row a) (not_row Unknown a) (not_row Foreign a) e in (x.0, x.1, let y = x.2 in cc)
+      let x = asked_yes _ _ _ _ _ (Ok a) (not_row Unknown a) (not_row Foreign a) e in (x.0, x.1, let y = x.2 in cc)
 
-  pub vcpu_reports : (a : Answer) → vcpu_asked r t v ≡ Row a → VcpuReported (system_from r t) (vcpu_at (system_from r t) v) a
+  pub vcpu_reports : (a : Answer) → vcpu_asked r t v ≡ Ok a → VcpuReported (system_from r t) (vcpu_at (system_from r t) v) a
   vcpu_reports a e = rw (← (vcpu_answered a e).2) (vcpu_answer_reports (system_from r t) (vcpu_at (system_from r t) v))
 
   -- no faultless call is refused
   pub vcpu_answered_exactly :
-      ((a : Answer) × (vcpu_asked r t v ≡ Row a)) ↔ ((is_given r t ≡ true) × (has_vcpu (system_from r t).vcpus v ≡ true))
+      ((a : Answer) × (vcpu_asked r t v ≡ Ok a)) ↔ ((is_given r t ≡ true) × (has_vcpu (system_from r t).vcpus v ≡ true))
   unfolding vcpu_asked vcpu_row_of
   vcpu_answered_exactly = (
     λ q. let x = vcpu_answered q.0 q.1 in (x.0, x.1),
@@ -160,15 +157,15 @@ module _ (r : PlanRecord) (t : Tables) (v : ℕ) where
 
 module _ (r : PlanRecord) (t : Tables) (v n i : ℕ) where
   wait_answered :
-      (a : Answer) → wait_asked r t v n i ≡ Row a →
+      (a : Answer) → wait_asked r t v n i ≡ Ok a →
       (is_given r t ≡ true) × (has_place (system_from r t) v n i ≡ true)
       × (wait_answer (system_from r t) (task_at (system_from r t) v n) (lock_at (task_at (system_from r t) v n) i) ≡ a)
   unfolding wait_asked wait_row_of
   wait_answered a e =
-      let x = asked_yes _ _ _ _ _ (Row a) (not_row Unknown a) (not_row Foreign a) e in (x.0, x.1, let y = x.2 in cc)
+      let x = asked_yes _ _ _ _ _ (Ok a) (not_row Unknown a) (not_row Foreign a) e in (x.0, x.1, let y = x.2 in cc)
 
   pub wait_reports :
-      (a : Answer) → wait_asked r t v n i ≡ Row a → WaitReported (system_from r t) (task_at (system_from r t) v n) (lock_at (task_at (system_from r t) v n) i) a
+      (a : Answer) → wait_asked r t v n i ≡ Ok a → WaitReported (system_from r t) (task_at (system_from r t) v n) (lock_at (task_at (system_from r t) v n) i) a
   wait_reports a e =
       rw (← (wait_answered a e).2)
       (wait_answer_reports (system_from r t) (task_at (system_from r t) v n) (lock_at (task_at (system_from r t) v n) i))
@@ -180,7 +177,7 @@ module _ (r : PlanRecord) (t : Tables) (v n i : ℕ) where
   place_both = (λ e. (both_left (has_task (system_from r t) v n) _ e, both_right (has_task (system_from r t) v n) _ e), λ q. both _ _ q.0 q.1)
 
   pub wait_answered_exactly :
-      ((a : Answer) × (wait_asked r t v n i ≡ Row a))
+      ((a : Answer) × (wait_asked r t v n i ≡ Ok a))
       ↔ ((is_given r t ≡ true) × (has_task (system_from r t) v n ≡ true)
       × (has_section (system_from r t) (task_at (system_from r t) v n) i ≡ true))
   unfolding wait_asked wait_row_of
@@ -193,21 +190,21 @@ module _ (r : PlanRecord) (t : Tables) (v n i : ℕ) where
   )
 
   response_answered :
-      (x : ℕ) → response_asked r t v n i ≡ Figure x →
+      (x : ℕ) → response_asked r t v n i ≡ Ok x →
       (is_given r t ≡ true) × (has_place (system_from r t) v n i ≡ true)
       × (response (system_from r t) (task_at (system_from r t) v n) (lock_at (task_at (system_from r t) v n) i) ≡ x)
   unfolding response_asked response_row_of
   response_answered x e =
-      let y = asked_yes _ _ _ _ _ (Figure x) (not_figure Unknown x) (not_figure Foreign x) e in (y.0, y.1, let z = y.2 in cc)
+      let y = asked_yes _ _ _ _ _ (Ok x) (not_figure Unknown x) (not_figure Foreign x) e in (y.0, y.1, let z = y.2 in cc)
 
   -- a figure that is answered is the response of the section
   pub response_reports :
-      (x : ℕ) → response_asked r t v n i ≡ Figure x →
+      (x : ℕ) → response_asked r t v n i ≡ Ok x →
       x ≡ response (system_from r t) (task_at (system_from r t) v n) (lock_at (task_at (system_from r t) v n) i)
   response_reports x e = sym (response_answered x e).2
 
   pub response_answered_exactly :
-      ((x : ℕ) × (response_asked r t v n i ≡ Figure x))
+      ((x : ℕ) × (response_asked r t v n i ≡ Ok x))
       ↔ ((is_given r t ≡ true) × (has_task (system_from r t) v n ≡ true)
       × (has_section (system_from r t) (task_at (system_from r t) v n) i ≡ true))
   unfolding response_asked response_row_of
@@ -294,29 +291,29 @@ module _ (s : System) (k : Task) where
 module _ (r : PlanRecord) (t : Tables) (v n : ℕ) where
   task_answered :
       (a : TaskAnswer) →
-      (task_asked r t v n ≡ TaskRow a)
+      (task_asked r t v n ≡ Ok a)
       ↔ ((is_given r t ≡ true) × (has_task (system_from r t) v n ≡ true) × (task_answer (system_from r t) (task_at (system_from r t) v n) ≡ a))
   unfolding task_asked task_row_of
   task_answered a = (
-    λ e. let x = asked_yes _ _ _ _ _ (TaskRow a) (not_task Unknown a) (not_task Foreign a) e in (x.0, x.1, let y = x.2 in cc),
-    λ q. yes_asked _ _ _ q.0 q.1 ∙ ap TaskRow q.2,
+    λ e. let x = asked_yes _ _ _ _ _ (Ok a) (not_task Unknown a) (not_task Foreign a) e in (x.0, x.1, let y = x.2 in cc),
+    λ q. yes_asked _ _ _ q.0 q.1 ∙ ap Ok q.2,
   )
 
   pub task_answered_exactly :
-      ((a : TaskAnswer) × (task_asked r t v n ≡ TaskRow a)) ↔ ((is_given r t ≡ true) × (has_task (system_from r t) v n ≡ true))
+      ((a : TaskAnswer) × (task_asked r t v n ≡ Ok a)) ↔ ((is_given r t ≡ true) × (has_task (system_from r t) v n ≡ true))
   task_answered_exactly = (
     λ q. let x = (task_answered q.0).0 q.1 in (x.0, x.1),
     λ q. let a = task_answer (system_from r t) (task_at (system_from r t) v n) in (a, (task_answered a).1 (q.0, q.1, refl)),
   )
 
   -- a task is searched, or named, as demand 3 says
-  pub task_reports : (a : TaskAnswer) → task_asked r t v n ≡ TaskRow a → TaskReported (system_from r t) (task_at (system_from r t) v n) a
+  pub task_reports : (a : TaskAnswer) → task_asked r t v n ≡ Ok a → TaskReported (system_from r t) (task_at (system_from r t) v n) a
   task_reports a e =
       rw (← ((task_answered a).0 e).2) (task_answer_reports (system_from r t) (task_at (system_from r t) v n))
 
   -- it is searched exactly when it rests on none
   pub task_searched_exactly :
-      ((a : Answer) × (task_asked r t v n ≡ TaskRow (Searched a)))
+      ((a : Answer) × (task_asked r t v n ≡ Ok (Searched a)))
       ↔ ((is_given r t ≡ true) × (has_task (system_from r t) v n ≡ true) × (¬ NoNumber (system_from r t) (task_at (system_from r t) v n))
       × (¬ HeldUp (system_from r t) (task_at (system_from r t) v n)))
   task_searched_exactly = (
@@ -329,7 +326,7 @@ module _ (r : PlanRecord) (t : Tables) (v n : ℕ) where
 
   -- it is named `nowait` exactly when one of its own global sections has a wait without a number
   pub task_nowait_exactly :
-      (task_asked r t v n ≡ TaskRow NoWait)
+      (task_asked r t v n ≡ Ok NoWait)
       ↔ ((is_given r t ≡ true) × (has_task (system_from r t) v n ≡ true) × NoNumber (system_from r t) (task_at (system_from r t) v n))
   task_nowait_exactly =
       let k = task_at (system_from r t) v n in (
@@ -339,7 +336,7 @@ module _ (r : PlanRecord) (t : Tables) (v n : ℕ) where
 
   -- it is named `held` exactly when none of its own has, and a higher task of its VCPU has such a section
   pub task_held_exactly :
-      (task_asked r t v n ≡ TaskRow Held)
+      (task_asked r t v n ≡ Ok Held)
       ↔ ((is_given r t ≡ true) × (has_task (system_from r t) v n ≡ true) × (¬ NoNumber (system_from r t) (task_at (system_from r t) v n))
       × HeldUp (system_from r t) (task_at (system_from r t) v n))
   task_held_exactly =

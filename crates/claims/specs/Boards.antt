@@ -1,5 +1,5 @@
 -- Event after event over lent tables: the last board, the ledger and locality, said of the calls `fresh` and `step`.
-use Rattle.std.specs.Prelude.{ℕ, ◌+◌, ◌≡◌, refl, true, List}
+use Rattle.std.specs.Prelude.{ℕ, ◌+◌, ◌≡◌, refl, true, List, Ok}
 use Rattle.std.proofs.Common.{sym, subst, ◌∙◌, ⊎_elim}
 use Rattle.laws.specs.BoolLaws.{bool_cases}
 use Rattle.plan_tables.specs.declared.PlanRecord.{PlanRecord}
@@ -17,7 +17,6 @@ use Rattle.board_keeps.specs.Ledger.{ledger}
 use Rattle.board_keeps.proofs.LedgerLaws.{ledger_balance}
 use Rattle.board_keeps.specs.Locality.{Untouched, untouched, ask_local, free_local, ask_elsewhere, free_elsewhere}
 use Rattle.board_keeps.proofs.Runs.{step_on_law}
-use Rattle.board_tables.specs.declared.FreshAnswer.TheVariants.{Made}
 use Rattle.board_tables.specs.Entered.{facts_from, fresh_for, step_for, run_for, last_for}
 use Rattle.board_tables.proofs.EnteredLaws.{step_other, step_given, fair_from, fresh_of, tested_other, run_made, run_answers}
 
@@ -26,11 +25,11 @@ module _ (r : PlanRecord) (t : Tables) where
   F = facts_from r t
 
   -- EVENT AFTER EVENT: the last board is that of the board's own rules
-  pub run_last : (fresh_for r t).answer ≡ Made → (es : List Event) → last_for r t (fresh_for r t).board es ≡ board_after F (fresh_for r t).board es
+  pub run_last : (fresh_for r t).answer ≡ Ok tt → (es : List Event) → last_for r t (fresh_for r t).board es ≡ board_after F (fresh_for r t).board es
   run_last e es = (run_made r t e es).1
 
   -- "the ticks accepted for a VCPU since its last `top` (or the start), added up from the events, equal budget + O − b − o"
-  pub run_ledger : (fresh_for r t).answer ≡ Made → (v : ℕ) → F.has_vcpu v ≡ true → (es : List Event) →
+  pub run_ledger : (fresh_for r t).answer ≡ Ok tt → (v : ℕ) → F.has_vcpu v ≡ true → (es : List Event) →
       ledger v 0 es (run_for r t (fresh_for r t).board es) + left_of (last_for r t (fresh_for r t).board es) v + over_of (last_for r t (fresh_for r t).board es) v
       ≡ F.budget v + F.overrun v
   run_ledger e v k es =

@@ -109,7 +109,7 @@ module _ {M : Type 1} {𝓤 : Ura M} (𝓛 : Logic 𝓤) (mem : Memory → SProp
   step_sheet_once = (λ κs a. free 𝓤, λ κs a g h x y. of_one 𝓤 (λ p q i. (once p q i, x.1)))
 
   pub answers_once : Once 𝓤 log_answers.answers.ended (log_answers.answers.clauses 𝓛 mem run)
-  answers_once κs a g h x y = of_two 𝓤 (λ p q i. (once p.0 q.0 i, (tt, (tt, (tt, (tt, (tt, (tt, (once p.1 q.1 i, tt)))))))))
+  answers_once κs a g h x y = of_two 𝓤 (λ p q i. (once p.0 q.0 i, (tt, (tt, (tt, (tt, (once p.1 q.1 i, tt)))))))
 
   -- THE PLAN ON A CLOCK (clock_tables; of a plan in bytes: desk_clock)
   pub run_of_once : Sure 𝓤 clock_tables.run_of.ended (clock_tables.run_of.clauses 𝓛 mem run)

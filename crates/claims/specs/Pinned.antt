@@ -1,5 +1,5 @@
 -- Of each entry that no function calls, which equation its contract is: no caller's proof would notice a weaker one. And of every function of Once, that its clauses are what its theorem states.
-use Rattle.std.specs.Prelude.{◌≡◌, refl, List, ℕ, ℤ}
+use Rattle.std.specs.Prelude.{◌≡◌, refl, List, ℕ, ℤ, Result}
 use seplogic.Ra.Ura.{Ura}
 use base.Logic.{SProp, sep}
 use prog.Memory.{Memory}
@@ -9,9 +9,10 @@ use contract.Lifetimes.{Lfts}
 use contract.Monad.{Fun, fact}
 use Rattle.std.specs.Borrow.{Bor, MutBor}
 use denote.Triple.Clauses.{AtExit, closing}
+use Rattle.plan.specs.declared.Refusal.{Refusal}
+use Rattle.plan.specs.declared.Complaint.{Complaint}
 use Rattle.plan_tables.specs.declared.PlanRecord.{PlanRecord}
 use Rattle.plan_tables.specs.Layout.{lent}
-use Rattle.read_answer.specs.declared.PlanAnswer.{PlanAnswer}
 use Rattle.records.specs.declared.Task.{Task}
 use Rattle.records.specs.Sheet.{tables_of}
 use Rattle.records_read.specs.After.{ReadOut}
@@ -19,7 +20,6 @@ use Rattle.records_reply.specs.declared.Question.{Question}
 use Rattle.records_reply.specs.declared.Replied.{Replied}
 use Rattle.records_reply.specs.Replies.{reply_to}
 use Rattle.listing.specs.Listing.{verdict_text}
-use Rattle.listing_lines.specs.declared.TextAnswer.{TextAnswer}
 use Rattle.listing_lines.specs.Into.{text_answer, text_after}
 use Rattle.listing_asked.specs.Asked.{text_asked, text_left}
 use Rattle.records_ask.specs.declared.Text.{Text}
@@ -58,7 +58,7 @@ use Rattle.exports_write.specs.contracts as exports_write
 module _ {M : Type 1} {𝓤 : Ura M} (𝓛 : Logic 𝓤) (mem : Memory → SProp 𝓤) (run : Routine → Fun 𝓤) where
   -- READING INTO RECORDS
   pub read_sheet_is :
-      (κs : Lfts 5) (s : Bor (List ℕ)) (vt mt ot : MutBor (List ℕ)) (ks : MutBor (List Task)) (z : PlanAnswer) (e : AtExit records_read.read_plan.ended κs) →
+      (κs : Lfts 5) (s : Bor (List ℕ)) (vt mt ot : MutBor (List ℕ)) (ks : MutBor (List Task)) (z : Result PlanRecord Complaint) (e : AtExit records_read.read_plan.ended κs) →
       (records_read.read_plan.clauses 𝓛 mem run κs (s, (vt, (mt, (ot, (ks, tt)))))).ensures tt z e
       ≡ fact 𝓤 (ReadOut s.now vt.now mt.now ot.now ks.now z e.1.0.now e.1.1.0.now e.1.1.1.0.now e.1.1.1.1.0.now)
   read_sheet_is κs s vt mt ot ks z e = refl
@@ -77,7 +77,7 @@ module _ {M : Type 1} {𝓤 : Ura M} (𝓛 : Logic 𝓤) (mem : Memory → SProp
   reply_stated = refl
 
   pub write_sheet_is :
-      (κs : Lfts 5) (r : PlanRecord) (vt mt ot : Bor (List ℕ)) (ks : Bor (List Task)) (w : Text) (o : MutBor (List ℕ)) (z : TextAnswer) (e : AtExit records_ask.write.ended κs) →
+      (κs : Lfts 5) (r : PlanRecord) (vt mt ot : Bor (List ℕ)) (ks : Bor (List Task)) (w : Text) (o : MutBor (List ℕ)) (z : Result ℕ Refusal) (e : AtExit records_ask.write.ended κs) →
       (records_ask.write.clauses 𝓛 mem run κs (r, (vt, (mt, (ot, (ks, (w, (o, tt)))))))).ensures tt z e
       ≡ sep 𝓤 (fact 𝓤 (z ≡ text_asked (wanted w) r (tables_of vt.now mt.now ot.now ks.now) o.now))
       (fact 𝓤 (e.1.1.1.1.1.1.0.now ≡ text_left (wanted w) r (tables_of vt.now mt.now ot.now ks.now) o.now))

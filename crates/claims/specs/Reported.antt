@@ -1,7 +1,7 @@
 -- "For an accepted plan a response time is reported exactly when some whole number of ticks from zero to the period is at least the demand that this number gives,
 -- and it is the smallest such number. Remote waits obey the same rule. A task whose demand rests on a wait without such a number is named so."
 -- And the rounds of a row: "the number of times the paper's recurrence evaluates the demand from its start until it repeats or passes the limit".
-use Rattle.std.specs.Prelude.{ℕ, ◌+◌, ◌-◌, ◌≤◌, ◌<◌, ◌≡◌, Bool, true, ◌↔◌}
+use Rattle.std.specs.Prelude.{ℕ, ◌+◌, ◌-◌, ◌≤◌, ◌<◌, ◌≡◌, Bool, true, ◌↔◌, Ok, Err}
 use mathlib.Core.List.{List, [], ◌∷◌, ◌++◌, Memᴰ}
 use Rattle.std.specs.Prelude.{if◌then◌else◌}
 use Rattle.laws.specs.Sums.{Has, Chain}
@@ -24,9 +24,6 @@ use Rattle.figures.specs.declared.TaskAnswer.{TaskAnswer}
 use Rattle.figures.specs.declared.TaskAnswer.TheVariants.{Searched, NoWait, Held}
 use Rattle.figures.specs.Answers.{remote_waits}
 use Rattle.figures.specs.Named.{Placed}
-use Rattle.answers_tasks.specs.declared.RowAnswer.TheVariants.{Row, NoRow}
-use Rattle.answers_tasks.specs.declared.TaskRowAnswer.TheVariants.{TaskRow, NoTaskRow}
-use Rattle.answers_tasks.specs.declared.FigureAnswer.TheVariants.{Figure, NoFigure}
 use Rattle.answers_tasks.specs.Asked.{vcpu_asked, wait_asked, task_asked, response_asked}
 use Rattle.listing.specs.Listing.{w_wait, w_all, w_fits, w_late, line, answer_fields, task_fields, wait_fields, rising, listing}
 use Rattle.listing.specs.ListingLaws.{Ended, Stands}
@@ -73,20 +70,20 @@ TaskReported s k Held = (¬ NoNumber s k) × HeldUp s k
 
 -- OF CALLS on tables u that plan p gives with the record r: each VCPU, each wait and each task of the plan is reported by its names, each section has its response, and what the plan lacks is refused 10
 pub record RowsReported (p : Plan) (r : PlanRecord) (u : Tables) : Type 0 where
-  pub vcpus : (x : Vcpu) → Memᴰ x p.vcpus → (a : Answer) × (vcpu_asked r u x.v ≡ Row a) × VcpuReported (system p) x a
+  pub vcpus : (x : Vcpu) → Memᴰ x p.vcpus → (a : Answer) × (vcpu_asked r u x.v ≡ Ok a) × VcpuReported (system p) x a
   pub waits :
       (k : Task) → Memᴰ k (tasks_of p.sections) → (i : ℕ) (l : Lock) → Placed k.locks i l → GlobalMutex p.mutexes l.m →
-      (a : Answer) × (wait_asked r u k.v k.n i ≡ Row a) × WaitReported (system p) k l a
+      (a : Answer) × (wait_asked r u k.v k.n i ≡ Ok a) × WaitReported (system p) k l a
   pub tasks :
-      (k : Task) → Memᴰ k (tasks_of p.sections) → (a : TaskAnswer) × (task_asked r u k.v k.n ≡ TaskRow a) × TaskReported (system p) k a
+      (k : Task) → Memᴰ k (tasks_of p.sections) → (a : TaskAnswer) × (task_asked r u k.v k.n ≡ Ok a) × TaskReported (system p) k a
   pub responses :
       (k : Task) → Memᴰ k (tasks_of p.sections) → (i : ℕ) (l : Lock) → Placed k.locks i l → GlobalMutex p.mutexes l.m →
-      response_asked r u k.v k.n i ≡ Figure (response (system p) k l)
-  pub no_vcpu_law : (v : ℕ) → ¬ Declared p.vcpus v → vcpu_asked r u v ≡ NoRow Unknown
-  pub no_task_law : (v n : ℕ) → ¬ Has (λ k. (k.v ≡ v) × (k.n ≡ n)) (tasks_of p.sections) → task_asked r u v n ≡ NoTaskRow Unknown
+      response_asked r u k.v k.n i ≡ Ok (response (system p) k l)
+  pub no_vcpu_law : (v : ℕ) → ¬ Declared p.vcpus v → vcpu_asked r u v ≡ Err Unknown
+  pub no_task_law : (v n : ℕ) → ¬ Has (λ k. (k.v ≡ v) × (k.n ≡ n)) (tasks_of p.sections) → task_asked r u v n ≡ Err Unknown
   pub no_place :
       (v n i : ℕ) → ¬ Has (λ k. (k.v ≡ v) × (k.n ≡ n) × ((l : Lock) × Placed k.locks i l × GlobalMutex p.mutexes l.m)) (tasks_of p.sections) →
-      (wait_asked r u v n i ≡ NoRow Unknown) × (response_asked r u v n i ≡ NoFigure Unknown)
+      (wait_asked r u v n i ≡ Err Unknown) × (response_asked r u v n i ≡ Err Unknown)
 
 -- OF WHAT `verdict` PRINTS of plan p: it is the plan's listing, the line of each VCPU, wait and task of the plan stands in it with what is reported of it,
 -- and `all fits` is printed exactly when every VCPU has a number, and every task has one and rests on no wait without one

@@ -1,11 +1,9 @@
 -- From bytes to bytes: an accepted plan, read into records and written out of them, comes back byte for byte, and what is written out of records, read into them again, leaves their numbers (over rows of numbers, and into other tables: write_asked/Back).
-use Rattle.std.specs.Prelude.{ℕ, ◌≡◌, List, take}
+use Rattle.std.specs.Prelude.{ℕ, ◌≡◌, List, take, Ok}
 use Rattle.std.proofs.Common.{ap, ◌∙◌}
 use Rattle.plan_tables.specs.declared.PlanRecord.{PlanRecord}
 use Rattle.plan_tables.specs.Layout.{Tables}
-use Rattle.read_answer.specs.declared.PlanAnswer.TheVariants.{Accepted}
 use Rattle.read_answer.specs.Into.{plan_answer, tables_after}
-use Rattle.listing_lines.specs.declared.TextAnswer.TheVariants.{Written}
 use Rattle.listing_lines.specs.Into.{text_answer, text_after}
 use Rattle.listing_asked.specs.Asked.{text_asked, text_left}
 use Rattle.write_asked.specs.Asked.{plan_asked, plan_left}
@@ -24,7 +22,7 @@ module _ (vt mt ot : List ℕ) (ks : List Task) (r : PlanRecord) where
 
   -- read, and written
   pub sheet_written :
-      (s : List ℕ) → plan_answer s lent ≡ Accepted r →
+      (s : List ℕ) → plan_answer s lent ≡ Ok r →
       let u : Tables = tables_after s lent in
       let left : Tables = tables_of u.vcpus u.mutexes u.opens (sheets_after s vt mt ot ks) in
       (o : List ℕ) → (text_asked (wanted Plan) r left o ≡ text_answer s o) × (text_left (wanted Plan) r left o ≡ text_after s o)
@@ -34,10 +32,10 @@ module _ (vt mt ot : List ℕ) (ks : List Task) (r : PlanRecord) where
 
   -- written, and read: the same record, and the numbers of the tables and records as they are
   pub sheet_read :
-      (o : List ℕ) (n : ℕ) → text_asked (wanted Plan) r lent o ≡ Written n →
+      (o : List ℕ) (n : ℕ) → text_asked (wanted Plan) r lent o ≡ Ok n →
       let s : List ℕ = take n (text_left (wanted Plan) r lent o) in
       let u : Tables = tables_after s lent in
-      (plan_answer s lent ≡ Accepted r) × (tables_of u.vcpus u.mutexes u.opens (sheets_after s vt mt ot ks) ≡ lent)
+      (plan_answer s lent ≡ Ok r) × (tables_of u.vcpus u.mutexes u.opens (sheets_after s vt mt ot ks) ≡ lent)
   sheet_read o n e =
       let w = written_back r lent o n e in
       (w.0, sheets_left (take n (text_left (wanted Plan) r lent o)) vt mt ot ks ∙ w.1)

@@ -1,5 +1,5 @@
 -- Room for the lines that `clock` prints, and for how far its run goes.
-use Rattle.std.specs.Prelude.{ℕ, ◌+◌, ◌^◌, ◌≤◌, ◌<◌, ◌≡◌, refl, List, [], ◌∷◌, Bool, true, false, leb, length}
+use Rattle.std.specs.Prelude.{ℕ, ◌+◌, ◌^◌, ◌≤◌, ◌<◌, ◌≡◌, refl, List, [], ◌∷◌, Bool, true, false, Result, Ok, leb, length}
 use Rattle.std.proofs.Common.{sym, ap, subst, ◌∙◌, arith, leb-true, length-append}
 use Rattle.std.specs.Prelude.{if◌then◌else◌}
 use Rattle.laws.specs.Bytes.{pieces, is_nil}
@@ -24,8 +24,6 @@ use Rattle.clock_rules.specs.Clock.{max_horizon, is_horizon}
 use Rattle.clock_rules.specs.Trace as trace
 use Rattle.clock_rules.specs.Trace.{horizon_form, horizon_of, horizon_in, one_line, horizon_from, end_line, refused_alone}
 use Rattle.clock_lines.specs.Bounds.{number_long, end_line_bound, refused_alone_bound}
-use Rattle.clock_horizons.specs.declared.HorizonAnswer.{HorizonAnswer}
-use Rattle.clock_horizons.specs.declared.HorizonAnswer.TheVariants.{Until, Refuse}
 use Rattle.clock_horizons.specs.Horizon.{told}
 use Rattle.clock_nexts.specs.Nexts.{Nexts}
 use Rattle.clock_going.specs.Going.{Going}
@@ -84,7 +82,7 @@ fine : (s : List ℕ) → Fine (horizon_from s)
 unfolding horizon_from
 fine s = fine_line (pieces lf s)
 
-pub until_to : (s : List ℕ) {a : HorizonAnswer} → told a ≡ horizon_from s → (h : ℕ) → a ≡ Until h → h ≤ max_horizon
+pub until_to : (s : List ℕ) {a : Result ℕ Refusal} → told a ≡ horizon_from s → (h : ℕ) → a ≡ Ok h → h ≤ max_horizon
 until_to s {a} e h q = subst Fine (sym e ∙ ap told q) (fine s)
 
 -- THE LAST LINES

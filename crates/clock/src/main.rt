@@ -5,16 +5,14 @@ ghost use Rattle.std.specs.Prelude.{◌≡◌, true, ◌≤◌, length};
 ghost use Rattle.plan_tables.specs.Given.{is_given};
 ghost use Rattle.plan_tables.specs.Layout.{lent};
 ghost use Rattle.records_read.specs.Lies.{Sure};
-ghost use Rattle.board_rules.specs.View.{facts_in};
+ghost use Rattle.board_rules.specs.PlanViews.{facts};
 ghost use Rattle.log_answers.specs.Small.{Small};
 ghost use Rattle.clock_nexts.specs.Nexts.{Nexts};
-ghost use Rattle.clock_going.specs.Going.{Going};
+ghost use Rattle.clock_going.specs.Lent.{GoingOf};
 
-use clock_horizons::HorizonAnswer;
-use plan::{Complaint, OverrunChoice, Policy, no_room};
+use board_rules::PlanView;
+use plan::{Complaint, no_room};
 use plan_tables::PlanRecord;
-use program::Input;
-use read_answer::PlanAnswer;
 use std::io;
 use std::process::ExitCode;
 
@@ -29,9 +27,7 @@ fn tell_end(rt: &(impl Print + Eprint), h: u64, out: &mut [u8]) -> io::Result<()
 // Tells the run to h, tick after tick, and how it ended.
 fn tell_run(
     rt: &(impl Print + Eprint),
-    policy: Policy,
-    choice: OverrunChoice,
-    view: &[u64],
+    plan: &PlanView,
     times: &[u64],
     left: &mut [u64],
     over: &mut [u64],
@@ -43,18 +39,15 @@ fn tell_run(
     h: u64,
     out: &mut [u8],
 ) -> io::Result<()>
-    requires { Going policy choice view.now times.now left.old over.old stopped.old holder.old waits.old marks.old × Nexts times.now nexts.old 0 × Small (facts_in policy choice view.now) × (h ≤ 1000000) × (length out.old ≡ 131072) }
+    requires { GoingOf plan.now times.now left.old over.old stopped.old holder.old waits.old marks.old × Nexts times.now nexts.old 0 × Small (facts plan.now) × (h ≤ 1000000) × (length out.old ≡ 131072) }
 {
-    let mut t: u64 = 0;
-    while t < h {
+    for t in 0u64..h {
         let goes_on = clock_tells::tell_tick(
-            rt, policy, choice, view, times, left, over, stopped, holder, waits, marks, nexts, t,
-            out,
+            rt, plan, times, left, over, stopped, holder, waits, marks, nexts, t, out,
         )?;
         if !goes_on {
             return Ok(());
         }
-        t += 1;
     }
     tell_end(rt, h, out)
 }
@@ -97,13 +90,14 @@ fn tell_plan(
         &mut marks,
         &mut nexts,
     );
-    let policy = r.policy;
-    let choice = r.overrun;
+    let plan = PlanView {
+        policy: r.policy,
+        overrun: r.overrun,
+        view: &view,
+    };
     tell_run(
         rt,
-        policy,
-        choice,
-        &view,
+        &plan,
         &times,
         &mut left,
         &mut over,
@@ -131,8 +125,8 @@ fn tell_asked(
     requires { (is_given r (lent vt.now mt.now ot.now ts.now) ≡ true) × (length out.old ≡ 131072) }
 {
     match clock_horizons::horizon_from(src) {
-        HorizonAnswer::Until(h) => tell_plan(rt, r, vt, mt, ot, ts, h, out),
-        HorizonAnswer::Refuse(k) => {
+        Ok(h) => tell_plan(rt, r, vt, mt, ot, ts, h, out),
+        Err(k) => {
             let w = clock_lines::refused_alone(out, k);
             program::print(rt, &out[..w])
         }
@@ -150,7 +144,7 @@ fn tell_refusal(rt: &(impl Print + Eprint), c: Complaint, out: &mut [u8]) -> io:
 // Tells the run of an accepted plan, or why a plan is refused.
 fn tell_or(
     rt: &(impl Print + Eprint),
-    a: PlanAnswer,
+    a: Result<PlanRecord, Complaint>,
     vt: &[u64],
     mt: &[u64],
     ot: &[u64],
@@ -161,8 +155,8 @@ fn tell_or(
     requires { Sure a (lent vt.now mt.now ot.now ts.now) × (length out.old ≡ 131072) }
 {
     match a {
-        PlanAnswer::Accepted(r) => tell_asked(rt, r, vt, mt, ot, ts, src, out),
-        PlanAnswer::Refused(c) => tell_refusal(rt, c, out),
+        Ok(r) => tell_asked(rt, r, vt, mt, ot, ts, src, out),
+        Err(c) => tell_refusal(rt, c, out),
     }
 }
 
@@ -186,12 +180,11 @@ fn tell(rt: &(impl Print + Eprint), plan: &[u8], src: &[u8]) -> io::Result<()> {
 // One byte more than is judged is read, so that a longer input is seen to be longer.
 fn main(rt: HostRuntime) -> ExitCode {
     let mut plan = [0u8; 65537];
-    let Input::Bytes(k) = program::read_file(&rt, b"plan.tsv", &mut plan) else {
+    let Some(k) = program::read_file(&rt, b"plan.tsv", &mut plan) else {
         return ExitCode::FAILURE;
     };
     let mut src = [0u8; 65537];
-    let Input::Bytes(n) = program::read_input(&rt, b"the horizon on standard input", &mut src)
-    else {
+    let Some(n) = program::read_input(&rt, b"the horizon on standard input", &mut src) else {
         return ExitCode::FAILURE;
     };
     program::status(tell(&rt, &plan[..k], &src[..n]))

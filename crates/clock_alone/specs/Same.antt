@@ -1,10 +1,9 @@
 -- An event that hands no mutex on leaves every VCPU but its own as it was: its supply, and what its tasks hold and wait for.
-use Rattle.std.specs.Prelude.{ℕ, ◌-◌, ◌≡◌, refl, true, false, List, [], ◌∷◌, eqb, get_or}
+use Rattle.std.specs.Prelude.{ℕ, ◌-◌, ◌≡◌, refl, true, false, List, [], ◌∷◌, eqb, get_or, Ok, Err}
 use Rattle.std.proofs.Common.{sym, ap, subst, ◌∙◌, true≢false, ⊎_elim, ne_eqb}
 use Rattle.laws.specs.BoolLaws.{bool_cases, same_or_not, neither_left, neither_right}
 use Rattle.laws.specs.Sums.{Each}
-use Rattle.plan.specs.declared.Fault.{Fault}
-use Rattle.plan.specs.declared.Fault.TheVariants.{Clear, Bad}
+use Rattle.plan.specs.Refusals.{Fault}
 use Rattle.board_rules.specs.Facts.{Facts}
 use Rattle.board_rules.specs.declared.Board.{Board}
 use Rattle.board_rules.specs.declared.Event.{Event}
@@ -112,7 +111,7 @@ module _ {F : Facts} {b : Board} (f : Fair F) (s : Shaped b) (w : ℕ) (j : InV 
   ask_tasks v n m ne = at_fault (ask_fault F b v n m) refl
     where
       at_fault : (x : Fault) → ask_fault F b v n m ≡ x → SameTasks w b (step F b (Ask v n m)).board
-      at_fault Clear e =
+      at_fault (Ok tt) e =
           let c = ask_clear F b v n m e in
           let i = sheet_v f v n m c.listed in
           let l = sheet_n f v n m c.listed in
@@ -124,14 +123,14 @@ module _ {F : Facts} {b : Board} (f : Fair F) (s : Shaped b) (w : ℕ) (j : InV 
           (settled_tasks F w (holder_tasks s w m (seat v n) k (λ x p z. seat_some w x p (sym z ∙ free)) (λ x p z. ne (sym (seat_one v n w x i l j p z).0)))))
           (λ h. rw (ask_waits F b v n m e h) (settled_tasks F w (wait_tasks b w v n m j i l ne)))
           (bool_cases (may_have F b v n m))
-      at_fault (Bad r) e = unfold step in rw e tasks_stay
+      at_fault (Err r) e = unfold step in rw e tasks_stay
 
   -- `free` of another VCPU, with nobody next
   free_tasks : (v n m : ℕ) → (w ≡ v → ⊥) → hands_on (step F b (Free v n m)).answer ≡ false → SameTasks w b (step F b (Free v n m)).board
   free_tasks v n m ne none = at_fault (free_fault F b v n m) refl
     where
       at_fault : (x : Fault) → free_fault F b v n m ≡ x → SameTasks w b (step F b (Free v n m)).board
-      at_fault Clear e =
+      at_fault (Ok tt) e =
           let c = free_clear F b v n m e in
           let i = task_v f v n c.task in
           let l = f.task_in_law v n c.task in
@@ -147,7 +146,7 @@ module _ {F : Facts} {b : Board} (f : Fair F) (s : Shaped b) (w : ℕ) (j : InV 
           let z = none_next (next_local F (with_holder b m 0) v) (ap (λ (o : Outcome). hands_on o.answer) (sym q) ∙ none) in
           rw q (settled_tasks F w (subst (λ x. SameTasks w b (granted_local (with_holder b m 0) x)) (sym z) free)))
           (bool_cases (F.global m))
-      at_fault (Bad r) e = unfold step in rw e tasks_stay
+      at_fault (Err r) e = unfold step in rw e tasks_stay
 
   -- `show`, which only reads
   show_tasks : (v n : ℕ) → SameTasks w b (step F b (Show v n)).board
@@ -155,8 +154,8 @@ module _ {F : Facts} {b : Board} (f : Fair F) (s : Shaped b) (w : ℕ) (j : InV 
   show_tasks v n = at_fault (show_fault F v n)
     where
       at_fault : (x : Fault) → SameTasks w b (answered b x (shown F b v n)).board
-      at_fault Clear = tasks_stay
-      at_fault (Bad r) = tasks_stay
+      at_fault (Ok tt) = tasks_stay
+      at_fault (Err r) = tasks_stay
 
   -- every event of another VCPU
   step_tasks : (e : Event) → (w ≡ own_vcpu e → ⊥) → hands_on (step F b e).answer ≡ false → SameTasks w b (step F b e).board

@@ -2,15 +2,15 @@
 #![tactic(auto)]
 
 ghost use Rattle.std.specs.Prelude.{◌≤◌};
-ghost use Rattle.board_rules.specs.View.{facts_in};
+ghost use Rattle.board_rules.specs.PlanViews.{facts};
 ghost use Rattle.clock_rules.specs.Clock.{asks_at};
 ghost use Rattle.clock_rules.specs.Trace.{lines_at};
 ghost use Rattle.clock_marks.specs.Marks.{board_of, run_in, done_in};
 ghost use Rattle.clock_lines.specs.Told.{RoomAt};
-ghost use Rattle.clock_going.specs.Going.{timing_by, Going};
+ghost use Rattle.clock_going.specs.Lent.{GoingOf, timing};
 ghost use Rattle.clock_takes.specs.Asked.{PickIs, KnownPick, Asked};
 
-use plan::{OverrunChoice, Policy};
+use board_rules::PlanView;
 
 // Who is picked, nobody where v and n are 0; and the mutex for which it is to ask, 0 for none.
 #[derive(Clone, Copy)]
@@ -30,9 +30,7 @@ pub struct Picked {
 
 // Whom core c picks, and the mutex for which it is to ask: (hv, hn), where hv is not 0, is known to be picked.
 fn pick(
-    policy: Policy,
-    choice: OverrunChoice,
-    view: &[u64],
+    plan: &PlanView,
     times: &[u64],
     left: &[u64],
     over: &[u64],
@@ -44,9 +42,9 @@ fn pick(
     hv: u64,
     hn: u64,
 ) -> Choice
-    requires going { Going policy choice view.now times.now left.now over.now stopped.now holder.now waits.now marks.now × (c ≤ 3) }
-    requires known_pick { KnownPick (timing_by policy choice view.now times.now) c (board_of left.now over.now stopped.now holder.now waits.now) (done_in marks.now) hv hn }
-    ensures { PickIs (timing_by policy choice view.now times.now) c (board_of left.now over.now stopped.now holder.now waits.now) (done_in marks.now) result.v result.n result.m }
+    requires going { GoingOf plan.now times.now left.now over.now stopped.now holder.now waits.now marks.now × (c ≤ 3) }
+    requires known_pick { KnownPick (timing plan.now times.now) c (board_of left.now over.now stopped.now holder.now waits.now) (done_in marks.now) hv hn }
+    ensures { PickIs (timing plan.now times.now) c (board_of left.now over.now stopped.now holder.now waits.now) (done_in marks.now) result.v result.n result.m }
 {
     let mut v = hv;
     let mut n = hn;
@@ -55,7 +53,7 @@ fn pick(
         if v == 0 {
             return Choice { v: 0, n: 0, m: 0 };
         }
-        n = clock_picks::pick_n(view, waits, marks, v);
+        n = clock_picks::pick_n(plan.view, waits, marks, v);
     }
     let m = clock_dues::due(times, holder, marks, v, n);
     Choice { v, n, m }
@@ -64,9 +62,7 @@ fn pick(
 // The asks of core c's turn, and who then uses the tick: (hv, hn), where hv is not 0, is known to be picked first.
 pub fn asks(
     on: bool,
-    policy: Policy,
-    choice: OverrunChoice,
-    view: &[u64],
+    plan: &PlanView,
     times: &[u64],
     left: &[u64],
     over: &[u64],
@@ -81,17 +77,16 @@ pub fn asks(
     out: &mut [u8],
     at: usize,
 ) -> Picked
-    requires going { Going policy choice view.now times.now left.now over.now stopped.now holder.old waits.old marks.old × (c ≤ 3) }
-    requires room_at { RoomAt on (lines_at (facts_in policy choice view.now) t (board_of left.now over.now stopped.now holder.old waits.old) (asks_at (timing_by policy choice view.now times.now) c (run_in left.now over.now stopped.now holder.old waits.old marks.old)).events) out.old at }
-    requires known_pick { KnownPick (timing_by policy choice view.now times.now) c (board_of left.now over.now stopped.now holder.old waits.old) (done_in marks.old) hv hn }
-    ensures { Asked policy choice view.now times.now left.now over.now stopped.now on c t holder.old waits.old marks.old out.old at holder.new waits.new marks.new out.new result.v result.n result.at }
+    requires going { GoingOf plan.now times.now left.now over.now stopped.now holder.old waits.old marks.old × (c ≤ 3) }
+    requires room_at { RoomAt on (lines_at (facts plan.now) t (board_of left.now over.now stopped.now holder.old waits.old) (asks_at (timing plan.now times.now) c (run_in left.now over.now stopped.now holder.old waits.old marks.old)).events) out.old at }
+    requires known_pick { KnownPick (timing plan.now times.now) c (board_of left.now over.now stopped.now holder.old waits.old) (done_in marks.old) hv hn }
+    ensures { Asked plan.now.policy plan.now.overrun plan.now.view.now times.now left.now over.now stopped.now on c t holder.old waits.old marks.old out.old at holder.new waits.new marks.new out.new result.v result.n result.at }
 {
     let mut w = at;
-    let mut k: u64 = 129;
     let mut fv = hv;
-    while 0 < k {
+    for _ in 0u64..129 {
         let p = pick(
-            policy, choice, view, times, left, over, stopped, holder, waits, marks, c, fv, hn,
+            plan, times, left, over, stopped, holder, waits, marks, c, fv, hn,
         );
         let v = p.v;
         let n = p.n;
@@ -100,13 +95,12 @@ pub fn asks(
             return Picked { v, n, at: w };
         }
         let a = clock_takes::ask(
-            on, policy, choice, view, left, over, stopped, holder, waits, marks, v, n, m, t, out, w,
+            on, plan, left, over, stopped, holder, waits, marks, v, n, m, t, out, w,
         );
         w = a.at;
         if !a.waits {
             return Picked { v, n, at: w };
         }
-        k -= 1;
         fv = 0;
     }
     Picked { v: 0, n: 0, at: w }

@@ -8,7 +8,9 @@ ghost use Rattle.figures.specs.System.{system};
 ghost use Rattle.clock_rules.specs.Clock.{timing_of, run_of};
 ghost use Rattle.clock_begins.specs.Begins.{Begun};
 
+use board_rules::PlanView;
 use clock_rules::RunAnswer;
+use figures_cells::PlanTables;
 use plan_tables::PlanRecord;
 
 // Writes the lists of the run before tick 0, of tables that an accepted plan gives.
@@ -32,8 +34,14 @@ pub fn begin(
     requires left_len { (length left.old ≡ 16) × (length over.old ≡ 16) × (length stopped.old ≡ 16) × (length holder.old ≡ 32) × (length waits.old ≡ 128) × (length marks.old ≡ 424) × (length nexts.old ≡ 162) }
     ensures { Begun r (lent vt.now mt.now ot.now ts.now) view.new times.new left.new over.new stopped.new holder.new waits.new marks.new nexts.new }
 {
-    board_views::fill_view(r, vt, mt, ts, view);
-    clock_views::fill_times(r, vt, mt, ts, times);
+    let t = PlanTables {
+        plan: r,
+        vcpus: vt,
+        mutexes: mt,
+        tasks: ts,
+    };
+    board_views::fill_view(&t, view);
+    clock_views::fill_times(&t, times);
     let choice = r.overrun;
     clock_starts::start(
         choice, view, times, left, over, stopped, holder, waits, marks, nexts,
@@ -70,12 +78,13 @@ pub fn run_in(r: PlanRecord, vt: &[u64], mt: &[u64], ot: &[u64], ts: &[u64], h: 
         &mut marks,
         &mut nexts,
     );
-    let policy = r.policy;
-    let choice = r.overrun;
+    let plan = PlanView {
+        policy: r.policy,
+        overrun: r.overrun,
+        view: &view,
+    };
     clock_ends::run(
-        policy,
-        choice,
-        &view,
+        &plan,
         &times,
         &mut left,
         &mut over,

@@ -15,14 +15,12 @@ pub fn put_vcpus(view: &[u64], left: &mut [u64], over: &mut [u64], stopped: &mut
     requires { (length left.old ≡ 16) × (length over.old ≡ 16) × (length stopped.old ≡ 16) }
     ensures { (left.new ≡ list_to 16 (λ v. budget_of view.now v)) × (over.new ≡ list_to 16 (λ v. overrun_of view.now v)) × (stopped.new ≡ list_to 16 (λ v. false)) }
 {
-    let mut v = 0;
-    while v < 16 {
+    for v in 0..16 {
         let name = v as u64 + 1;
         left[v] = board_seats::budget(view, name);
         over[v] = board_seats::overrun(view, name);
-        stopped[v] = false;
-        v += 1;
     }
+    stopped.fill(false);
 }
 
 // Nobody holds a mutex.
@@ -30,11 +28,7 @@ pub fn put_holders(holder: &mut [u16])
     requires { length holder.old ≡ 32 }
     ensures { holder.new ≡ list_to 32 (λ m. 0) }
 {
-    let mut m = 0;
-    while m < 32 {
-        holder[m] = 0;
-        m += 1;
-    }
+    holder.fill(0);
 }
 
 // Nobody waits.
@@ -42,11 +36,7 @@ pub fn put_waits(waits: &mut [u8])
     requires { length waits.old ≡ 128 }
     ensures { waits.new ≡ list_to 128 (λ s. 0) }
 {
-    let mut s = 0;
-    while s < 128 {
-        waits[s] = 0;
-        s += 1;
-    }
+    waits.fill(0);
 }
 
 // Every job has done all its lengths.
@@ -54,11 +44,7 @@ pub fn put_lengths(times: &[u64], marks: &mut [u64])
     requires { (length times.now ≡ 3360) × (length marks.old ≡ 424) }
     ensures { DoneTo times.now marks.old marks.new 128 }
 {
-    let mut i = 0;
-    while i < 128 {
-        marks[164 + i] = times[160 + i];
-        i += 1;
-    }
+    marks[164..292].copy_from_slice(&times[160..288]);
 }
 
 // Each VCPU stands in the sets of those with budget and with overrun to spare, as the board's arrays say.
@@ -72,10 +58,8 @@ pub fn put_supplies(
     requires { Sized marks.old }
     ensures { SuppliedTo choice left.now over.now stopped.now marks.old marks.new 17 }
 {
-    let mut v = 1;
-    while v <= 16 {
+    for v in 1..=16 {
         clock_supplies::put_supply(choice, left, over, stopped, marks, v);
-        v += 1;
     }
 }
 
@@ -91,10 +75,8 @@ pub fn put_nexts(times: &[u64], nexts: &mut [u64])
     requires { (length times.now ≡ 3360) × (length nexts.old ≡ 162) }
     ensures { Wrote (first_nexts times.now) nexts.old nexts.new 0 144 }
 {
-    let mut i = 0;
-    while i < 144 {
+    for i in 0..144 {
         nexts[i] = first_next(times[16 + i]);
-        i += 1;
     }
 }
 
@@ -103,9 +85,5 @@ pub fn put_bounds(nexts: &mut [u64])
     requires { length nexts.old ≡ 162 }
     ensures { Wrote (λ j. 0) nexts.old nexts.new 144 162 }
 {
-    let mut i = 144;
-    while i < 162 {
-        nexts[i] = 0;
-        i += 1;
-    }
+    nexts[144..162].fill(0);
 }

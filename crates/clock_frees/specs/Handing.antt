@@ -1,5 +1,5 @@
 -- Whether events hand a mutex on: only a `free` does.
-use Rattle.std.specs.Prelude.{ℕ, zero, suc, ◌≡◌, Bool, ◌&&◌, ◌||◌}
+use Rattle.std.specs.Prelude.{ℕ, zero, suc, ◌≡◌, Bool, ◌&&◌, ◌||◌, Ok, Err}
 use Rattle.std.proofs.Math.Path.{refl, ap, sym}
 use Rattle.std.proofs.Common.{◌∙◌, eq-eqb, ne_eqb}
 use mathlib.Core.List.{List, [], ◌∷◌, ◌++◌}
@@ -9,8 +9,7 @@ use Rattle.std.specs.Prelude.{if◌then◌else◌}
 use Rattle.laws.specs.Range.{flat_to}
 use Rattle.laws.specs.BoolLaws.{both, both_left, both_right}
 use Rattle.plan.specs.Limits.{max_v}
-use Rattle.plan.specs.declared.Fault.{Fault}
-use Rattle.plan.specs.declared.Fault.TheVariants.{Clear, Bad}
+use Rattle.plan.specs.Refusals.{Fault}
 use Rattle.board_rules.specs.Facts.{Facts}
 use Rattle.board_rules.specs.declared.Board.{Board}
 use Rattle.board_rules.specs.declared.Event.{Event}
@@ -94,24 +93,24 @@ module _ (F : Facts) where
       may false = refl
 
       at : (x : Fault) → hands_on (answered b x (asked F b v n m)).answer ≡ false
-      at Clear = may (may_have F b v n m)
-      at (Bad r) = refl
+      at (Ok tt) = may (may_have F b v n m)
+      at (Err r) = refl
   quiet_answer b (Free v n m) h = absurd (false≢true h)
   quiet_answer b (Use v t) h = at (use_fault F b v t)
     where
       at : (x : Fault) → hands_on (answered b x (used F b v t)).answer ≡ false
-      at Clear = refl
-      at (Bad r) = refl
+      at (Ok tt) = refl
+      at (Err r) = refl
   quiet_answer b (Top v) h = at (top_fault F v)
     where
       at : (x : Fault) → hands_on (answered b x (topped F b v)).answer ≡ false
-      at Clear = refl
-      at (Bad r) = refl
+      at (Ok tt) = refl
+      at (Err r) = refl
   quiet_answer b (Show v n) h = at (show_fault F v n)
     where
       at : (x : Fault) → hands_on (answered b x (shown F b v n)).answer ≡ false
-      at Clear = refl
-      at (Bad r) = refl
+      at (Ok tt) = refl
+      at (Err r) = refl
 
   -- so it hangs on what comes after them
   pub hands_after : (b b' : Board) (xs ys : List Event) → no_frees xs ≡ true → b' ≡ board_after F b xs → any_hands_on (answers F b (xs ++ ys)) ≡ any_hands_on (answers F b' ys)

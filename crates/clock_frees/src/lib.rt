@@ -2,20 +2,21 @@
 #![tactic(auto)]
 
 ghost use Rattle.std.specs.Prelude.{◌≡◌, ◌<◌, ◌≤◌};
-ghost use Rattle.board_rules.specs.View.{facts_in};
+ghost use Rattle.board_rules.specs.PlanViews.{facts};
 ghost use Rattle.board_events.specs.Events.{answers};
 ghost use Rattle.clock_rules.specs.Clock.{free_of};
 ghost use Rattle.clock_rules.specs.Trace.{lines_at};
 ghost use Rattle.clock_lines.specs.Told.{RoomAt};
 ghost use Rattle.clock_marks.specs.Marks.{Sized, Mirrors, board_of, run_in, done_in};
 ghost use Rattle.clock_steps.specs.Hands.{any_hands_on};
-ghost use Rattle.clock_going.specs.Going.{timing_by, Going, Made};
+ghost use Rattle.clock_going.specs.Going.{Made};
+ghost use Rattle.clock_going.specs.Lent.{GoingOf, timing};
 ghost use Rattle.clock_hands.specs.Holding.{holds_in};
 ghost use Rattle.clock_hands.specs.Freed.{next_in, NextIn, Passed, GotGlobal, PutFreed, Frees};
 ghost use Rattle.clock_frees.specs.Handing.{goes_on};
 
-use board_rules::{Board, BoardAnswer, Event, Next};
-use plan::{OverrunChoice, Policy};
+use board_rules::{Board, BoardAnswer, Event, Next, PlanView};
+use plan::OverrunChoice;
 
 // Where the text goes on after the work of a turn; and whether a mutex was handed on in it.
 #[derive(Clone, Copy)]
@@ -110,9 +111,7 @@ fn after_free(
 // Task (v, n) frees m, where a section is finished.
 pub fn freeing(
     on: bool,
-    policy: Policy,
-    choice: OverrunChoice,
-    view: &[u64],
+    plan: &PlanView,
     times: &[u64],
     left: &[u64],
     over: &[u64],
@@ -127,22 +126,32 @@ pub fn freeing(
     out: &mut [u8],
     at: usize,
 ) -> Worked
-    requires v_nonzero { (0 < v) × (v ≤ 16) × (0 < n) × (n ≤ 8) × Going policy choice view.now times.now left.now over.now stopped.old holder.old waits.old marks.old × Frees (facts_in policy choice view.now) (board_of left.now over.now stopped.old holder.old waits.old) v n m }
-    requires room_at { RoomAt on (lines_at (facts_in policy choice view.now) t (board_of left.now over.now stopped.old holder.old waits.old) (free_of v n m)) out.old at }
-    ensures mirrors { Mirrors (timing_by policy choice view.now times.now) times.now (board_of left.now over.now stopped.new holder.new waits.new) marks.new }
-    ensures made { Made (facts_in policy choice view.now) on t (run_in left.now over.now stopped.old holder.old waits.old marks.old) (run_in left.now over.now stopped.new holder.new waits.new marks.new) (free_of v n m) out.old at out.new result.at }
+    requires v_nonzero { (0 < v) × (v ≤ 16) × (0 < n) × (n ≤ 8) × GoingOf plan.now times.now left.now over.now stopped.old holder.old waits.old marks.old × Frees (facts plan.now) (board_of left.now over.now stopped.old holder.old waits.old) v n m }
+    requires room_at { RoomAt on (lines_at (facts plan.now) t (board_of left.now over.now stopped.old holder.old waits.old) (free_of v n m)) out.old at }
+    ensures mirrors { Mirrors (timing plan.now times.now) times.now (board_of left.now over.now stopped.new holder.new waits.new) marks.new }
+    ensures made { Made (facts plan.now) on t (run_in left.now over.now stopped.old holder.old waits.old marks.old) (run_in left.now over.now stopped.new holder.new waits.new marks.new) (free_of v n m) out.old at out.new result.at }
     ensures marks_unchanged { done_in marks.new ≡ done_in marks.old }
-    ensures handed_value { result.handed ≡ any_hands_on (answers (facts_in policy choice view.now) (board_of left.now over.now stopped.old holder.old waits.old) (free_of v n m)) }
+    ensures handed_value { result.handed ≡ any_hands_on (answers (facts plan.now) (board_of left.now over.now stopped.old holder.old waits.old) (free_of v n m)) }
 {
     if m == 0 {
         return Worked { at, handed: false };
     }
-    let a = Board::free_sure(policy, choice, view, left, stopped, holder, waits, v, n, m);
-    let global = board_seats::is_global(view, m);
+    let a = Board::free_sure(plan, left, stopped, holder, waits, v, n, m);
+    let global = board_seats::is_global(plan.view, m);
     let next = next_in(a);
     let handed = goes_on(next);
     after_free(
-        choice, view, left, over, stopped, holder, marks, v, n, global, next,
+        plan.overrun,
+        plan.view,
+        left,
+        over,
+        stopped,
+        holder,
+        marks,
+        v,
+        n,
+        global,
+        next,
     );
     let w = clock_lines::tell(on, out, at, t, Event::Free { v, n, m }, a);
     Worked { at: w, handed }

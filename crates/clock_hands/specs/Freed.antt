@@ -1,5 +1,5 @@
 -- A finished section is freed: what is written then of the task that held the mutex, and of the next one that has it.
-use Rattle.std.specs.Prelude.{ℕ, ◌+◌, ◌-◌, ◌≤◌, ◌≡◌, Bool, true, false, ◌&&◌, leb}
+use Rattle.std.specs.Prelude.{ℕ, ◌+◌, ◌-◌, ◌≤◌, ◌≡◌, Bool, true, false, ◌&&◌, leb, Ok, Err}
 use Rattle.std.proofs.Math.Path.{refl, ap, sym, subst, subst₂}
 use Rattle.std.proofs.Common.{◌∙◌, true≢false, arith, le-leb, eq-eqb, ne_eqb}
 use mathlib.Core.List.{List, [], ◌∷◌}
@@ -14,8 +14,7 @@ use Rattle.laws.specs.BoolLaws.{both, both_left, both_right, is_true, is_false, 
 use Rattle.plan.specs.Limits.{max_v, max_m, most_n}
 use Rattle.plan.specs.declared.Policy.{Policy}
 use Rattle.plan.specs.declared.OverrunChoice.{OverrunChoice}
-use Rattle.plan.specs.declared.Fault.{Fault}
-use Rattle.plan.specs.declared.Fault.TheVariants.{Clear, Bad}
+use Rattle.plan.specs.Refusals.{Fault}
 use Rattle.board_seats.specs.Seats.{is_v, is_n, seat, is_global, is_local, holds_it}
 use Rattle.board_walks.specs.Walks as walks
 use Rattle.board_reserves.specs.Supplies.{free_fault_at}
@@ -72,8 +71,8 @@ freed_answer F b v n m h = at_fault (free_fault F b v n m) h
     at_global false = refl
 
     at_fault : (x : Fault) → is_refusal (answered b x (freed F b v m)).answer ≡ false → (answered b x (freed F b v m)).answer ≡ Freed (next_in (answered b x (freed F b v m)).answer)
-    at_fault Clear h = at_global (F.global m)
-    at_fault (Bad r) h = absurd (true≢false h)
+    at_fault (Ok tt) h = at_global (F.global m)
+    at_fault (Err r) h = absurd (true≢false h)
 
 -- its names are in range
 abbrev pub NextIn : Next → Type 0
@@ -367,7 +366,7 @@ module _ {p : Policy} {o : OverrunChoice} {t x ls os : List ℕ} {ss : List Bool
   one_free nz = ap (λ (y : Bool). if y then [] else Free v n m ∷ []) (ne_eqb m 0 nz)
 
   -- it has no fault
-  pub free_clear : (m ≡ 0 → ⊥) → free_fault_at t hs v n m ≡ Clear
+  pub free_clear : (m ≡ 0 → ⊥) → free_fault_at t hs v n m ≡ Ok tt
   unfolding step free_fault facts_in
   free_clear nz = let b = board_of ls os ss hs ws in no_fault b (freed (facts_in p o t) b v m) (free_fault (facts_in p o t) b v n m) (f nz)
 

@@ -1,8 +1,8 @@
 -- What the reading of the line `horizon h` answers, as specs/Trace of `clock_rules` has it.
+use Rattle.std.specs.Prelude.{ℕ, Result, Ok, Err}
+use Rattle.plan.specs.declared.Refusal.{Refusal}
 use Rattle.clock_rules.specs.Trace as trace
-use Rattle.clock_horizons.specs.declared.HorizonAnswer.{HorizonAnswer}
-use Rattle.clock_horizons.specs.declared.HorizonAnswer.TheVariants.{Until, Refuse}
 
-abbrev pub told : HorizonAnswer → trace.Horizon
-told (Until h) = trace.Until h
-told (Refuse r) = trace.Refuse r
+abbrev pub told : Result ℕ Refusal → trace.Horizon
+told (Ok h) = trace.Until h
+told (Err r) = trace.Refuse r

@@ -1,5 +1,5 @@
 -- After `ask`: the task waits, or holds the mutex.
-use Rattle.std.specs.Prelude.{ℕ, List, Bool, true, ◌&&◌}
+use Rattle.std.specs.Prelude.{ℕ, List, Bool, true, ◌&&◌, Ok, Err}
 use Rattle.std.proofs.Math.Path.{◌≡◌, refl, sym, ap}
 use Rattle.std.proofs.Common.{subst, ◌∙◌, arith}
 use Rattle.std.proofs.Math.Bool.{false}
@@ -7,8 +7,7 @@ use borrow.Author.Tests.{ne_eqb}
 use Rattle.std.proofs.Math.Dec.{eqb, ltb}
 use Rattle.std.specs.Prelude.{if◌then◌else◌}
 use Rattle.laws.specs.BoolLaws.{miss_right, is_true, is_false}
-use Rattle.plan.specs.declared.Fault.{Fault}
-use Rattle.plan.specs.declared.Fault.TheVariants.{Clear, Bad}
+use Rattle.plan.specs.Refusals.{Fault}
 use Rattle.board_rules.specs.Facts.{Facts}
 use Rattle.board_rules.specs.declared.Board.{Board}
 use Rattle.board_rules.specs.declared.Event.TheVariants.{Ask}
@@ -37,22 +36,22 @@ use Rattle.clock_mirrors.specs.Supplies.{spared_alike}
 -- WHAT AN ANSWER SAYS
 module _ (F : Facts) (b : Board) (v n m : ℕ) where
   -- one that is no refusal
-  granted_clear : (step F b (Ask v n m)).answer ≡ Granted → ask_fault F b v n m ≡ Clear
+  granted_clear : (step F b (Ask v n m)).answer ≡ Granted → ask_fault F b v n m ≡ Ok tt
   unfolding step
   granted_clear a = at_fault (ask_fault F b v n m) a
     where
-      at_fault : (r : Fault) → (answered b r (asked F b v n m)).answer ≡ Granted → r ≡ Clear
-      at_fault Clear a = refl
-      at_fault (Bad r) a = absurd (let z : ◌≡◌ {A = ℕ} 0 1 = cc in omega arith)
+      at_fault : (r : Fault) → (answered b r (asked F b v n m)).answer ≡ Granted → r ≡ Ok tt
+      at_fault (Ok tt) a = refl
+      at_fault (Err r) a = absurd (let z : ◌≡◌ {A = ℕ} 0 1 = cc in omega arith)
 
   -- the other one
-  waits_clear : (step F b (Ask v n m)).answer ≡ Waits → ask_fault F b v n m ≡ Clear
+  waits_clear : (step F b (Ask v n m)).answer ≡ Waits → ask_fault F b v n m ≡ Ok tt
   unfolding step
   waits_clear a = at_fault (ask_fault F b v n m) a
     where
-      at_fault : (r : Fault) → (answered b r (asked F b v n m)).answer ≡ Waits → r ≡ Clear
-      at_fault Clear a = refl
-      at_fault (Bad r) a = absurd (let z : ◌≡◌ {A = ℕ} 0 1 = cc in omega arith)
+      at_fault : (r : Fault) → (answered b r (asked F b v n m)).answer ≡ Waits → r ≡ Ok tt
+      at_fault (Ok tt) a = refl
+      at_fault (Err r) a = absurd (let z : ◌≡◌ {A = ℕ} 0 1 = cc in omega arith)
 
   -- the task may have m where it gets it
   pub granted_may : (step F b (Ask v n m)).answer ≡ Granted → may_have F b v n m ≡ true
@@ -98,7 +97,7 @@ module _ {T : Timing} {x : List ℕ} {b : Board} {k : List ℕ} (mir : Mirrors T
       (tells_mirror (tells_ready (mirrors_tell mir) i p) (wait_says i (sheet_n f v n m l) (λ z. let q = (sheet_m f v n m l).from in omega arith)))
 
   -- THE TASK HOLDS m, which was free, and held none
-  module _ (e : ask_fault T.facts b v n m ≡ Clear) (h : may_have T.facts b v n m ≡ true) where
+  module _ (e : ask_fault T.facts b v n m ≡ Ok tt) (h : may_have T.facts b v n m ≡ true) where
     -- the board before it is settled
     abbrev given : Board
     given = with_holder b m (seat v n)

@@ -1,10 +1,9 @@
 -- What `free` changes of who holds and who waits: the task holds none, and one task may have got what it waited for.
-use Rattle.std.specs.Prelude.{ℕ, true, false}
+use Rattle.std.specs.Prelude.{ℕ, true, false, Ok, Err}
 use Rattle.std.proofs.Math.Path.{◌≡◌, refl}
 use Rattle.std.proofs.Common.{sym, ap, subst, ◌∙◌, ⊎_elim, arith}
 use Rattle.laws.specs.BoolLaws.{bool_cases, same_or_not}
-use Rattle.plan.specs.declared.Fault.{Fault}
-use Rattle.plan.specs.declared.Fault.TheVariants.{Clear, Bad}
+use Rattle.plan.specs.Refusals.{Fault}
 use Rattle.board_rules.specs.Facts.{Facts}
 use Rattle.board_rules.specs.declared.Board.{Board}
 use Rattle.board_rules.specs.declared.Event.TheVariants.{Free}
@@ -98,7 +97,7 @@ module _ {F : Facts} {b : Board} (s : Shaped b) (o : Holding F (holder_of b) (wa
 -- `free v n m`
 module _ {F : Facts} {b : Board} (f : Fair F) (s : Shaped b) (g : good F b ≡ true) (v n m : ℕ) where
   -- that is in order
-  module _ (e : free_fault F b v n m ≡ Clear) where
+  module _ (e : free_fault F b v n m ≡ Ok tt) where
     -- the names are in range
     v_in : InV v
     v_in = task_v f v n (free_clear F b v n m e).task
@@ -162,19 +161,19 @@ module _ {F : Facts} {b : Board} (f : Fair F) (s : Shaped b) (g : good F b ≡ t
   }
 
   -- an answer that is no refusal
-  pub freed_clear : (x : Next) → (step F b (Free v n m)).answer ≡ Freed x → free_fault F b v n m ≡ Clear
+  pub freed_clear : (x : Next) → (step F b (Free v n m)).answer ≡ Freed x → free_fault F b v n m ≡ Ok tt
   unfolding step
   freed_clear x a = at_fault (free_fault F b v n m) a
     where
-      at_fault : (r : Fault) → (answered b r (freed F b v m)).answer ≡ Freed x → r ≡ Clear
-      at_fault Clear a = refl
-      at_fault (Bad r) a = absurd (let z : ◌≡◌ {A = ℕ} 0 1 = cc in omega arith)
+      at_fault : (r : Fault) → (answered b r (freed F b v m)).answer ≡ Freed x → r ≡ Ok tt
+      at_fault (Ok tt) a = refl
+      at_fault (Err r) a = absurd (let z : ◌≡◌ {A = ℕ} 0 1 = cc in omega arith)
 
   -- whoever is next
   pub free_board : (x : Next) → (step F b (Free v n m)).answer ≡ Freed x → FreedFor F b (step F b (Free v n m)).board v n m x
   free_board x a = ⊎_elim at_global at_local (bool_cases (F.global m))
     where
-      e : free_fault F b v n m ≡ Clear
+      e : free_fault F b v n m ≡ Ok tt
       e = freed_clear x a
 
       -- the board and the answer of an outcome

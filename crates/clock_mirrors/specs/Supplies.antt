@@ -1,13 +1,12 @@
 -- After `use` and `top`, and after any change of one VCPU's budget, overrun and mark.
-use Rattle.std.specs.Prelude.{ℕ, ◌+◌, ◌-◌, ◌<◌, ◌≡◌, refl, List, Bool, true, ◌&&◌, ◌⊎◌, eqb, length, get_or, set}
+use Rattle.std.specs.Prelude.{ℕ, ◌+◌, ◌-◌, ◌<◌, ◌≡◌, refl, List, Bool, true, ◌&&◌, ◌⊎◌, eqb, length, get_or, set, Ok, Err}
 use Rattle.std.proofs.Math.Path.{sym, ap, subst}
 use Rattle.std.proofs.Common.{◌∙◌, inl, inr, ⊎_elim, lt-ltb, length-set, get_or-set_same, get_or-set_other}
 use native.Mathlib.Omega.{arith}
 use Rattle.std.proofs.Math.Dec.{ltb}
 use Rattle.std.specs.Prelude.{if◌then◌else◌}
 use Rattle.laws.specs.BoolLaws.{is_false, same_or_not}
-use Rattle.plan.specs.declared.Fault.{Fault}
-use Rattle.plan.specs.declared.Fault.TheVariants.{Clear, Bad}
+use Rattle.plan.specs.Refusals.{Fault}
 use Rattle.board_rules.specs.Facts.{Facts}
 use Rattle.board_rules.specs.declared.Board.{Board}
 use Rattle.board_rules.specs.declared.Event.{Event}
@@ -174,7 +173,7 @@ module _ {T : Timing} {x : List ℕ} {b : Board} {k : List ℕ} (m : Mirrors T x
   tick_mirrors v h = at_fault (use_fault T.facts b v 1) refl
     where
       at_fault : (y : Fault) → use_fault T.facts b v 1 ≡ y → Mirrors T x (step T.facts b (Use v 1)).board k
-      at_fault Clear e =
+      at_fault (Ok tt) e =
           let F = T.facts in
           let b' = (step F b (Use v 1)).board in
           let i = f.vcpu_in v (use_clear F b v 1 e).vcpu in
@@ -186,5 +185,5 @@ module _ {T : Timing} {x : List ℕ} {b : Board} {k : List ℕ} (m : Mirrors T x
           quiet_mirrors m (use_locks F b v 1)
           (at_each (λ w. ltb 0 (left_of b w) ≡ ltb 0 (left_of b' w)) v (lt-ltb 0 (left_of b v) (omega arith) ∙ sym (lt-ltb 0 (left_of b' v) (omega arith))) (λ w j ne. ap (ltb 0) (sym (but.left_same w j ne))))
           (at_each (λ w. spares F.choice (is_stopped b w) (over_of b w) ≡ spares F.choice (is_stopped b' w) (over_of b' w)) v (spared_alike T b b' v mark over) (λ w j ne. spared_alike T b b' w (but.mark_same w j ne) (but.over_same w j ne)))
-      at_fault (Bad r) e =
+      at_fault (Err r) e =
           let z : (step T.facts b (Use v 1)).board ≡ b = (unfold step in ap (λ y. (answered b y (used T.facts b v 1)).board) e) in subst (λ y. Mirrors T x y k) (sym z) m

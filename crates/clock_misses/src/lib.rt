@@ -31,13 +31,11 @@ pub fn missed_n(times: &[u64], marks: &[u64], nexts: &[u64], v: u64, t: u64) -> 
     requires { (length times.now ≡ 3360) × (length marks.now ≡ 424) × (length nexts.now ≡ 162) × (0 < v) × (v ≤ 16) }
     ensures { (result ≡ missed_n times.now marks.now nexts.now t v) × (result ≤ 8) }
 {
-    let mut i = 0;
-    while i < 8 {
+    for i in 0..8 {
         let n = i + 1;
         if misses(times, marks, nexts, v, n, t) {
             return n;
         }
-        i += 1;
     }
     0
 }
@@ -59,13 +57,11 @@ pub fn missed_v(times: &[u64], marks: &[u64], nexts: &[u64], t: u64) -> u64
     requires { (length times.now ≡ 3360) × (length marks.now ≡ 424) × (length nexts.now ≡ 162) × Jobs times.now nexts.now t }
     ensures { (result ≡ missed_v times.now marks.now nexts.now t) × (result ≤ 16) }
 {
-    let mut i = 0;
-    while i < 16 {
+    for i in 0..16 {
         let v = i + 1;
         if misses_in(times, marks, nexts, v, t) {
             return v;
         }
-        i += 1;
     }
     0
 }

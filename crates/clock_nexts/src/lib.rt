@@ -10,7 +10,7 @@ ghost use Rattle.clock_nexts.specs.Nexts.{renewed, renewal, sooner, Row, Periods
 pub fn sooner(a: u64, b: u64) -> u64
     ensures { result ≡ sooner a b }
 {
-    if a < b { a } else { b }
+    a.min(b)
 }
 
 // The next, when tick t is over, of one with period p whose next was y.
@@ -27,12 +27,10 @@ fn renew(times: &[u64], nexts: &mut [u64], a: usize, e: usize, t: u64) -> u64
     ensures { Wrote (renewal times.now nexts.old t) nexts.old nexts.new a e × Soonest (renewal times.now nexts.old t) a e result }
 {
     let mut r = 3000000;
-    let mut i = a;
-    while i < e {
+    for i in a..e {
         let y = renewed(times[16 + i], nexts[i], t);
         nexts[i] = y;
         r = sooner(y, r);
-        i += 1;
     }
     r
 }
@@ -54,11 +52,9 @@ pub fn recurring(times: &[u64]) -> u64
     ensures { HasTops times.now result }
 {
     let mut s = 0;
-    let mut i: u64 = 0;
-    while i < 16 {
+    for i in 0u64..16 {
         let p = board_seats::at(times, 16 + i);
         s = gather(s, i + 1, 0 < p);
-        i += 1;
     }
     s
 }

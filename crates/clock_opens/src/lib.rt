@@ -2,24 +2,22 @@
 #![tactic(auto)]
 
 ghost use Rattle.std.specs.Prelude.{◌≤◌};
-ghost use Rattle.board_rules.specs.View.{facts_in};
+ghost use Rattle.board_rules.specs.PlanViews.{facts};
 ghost use Rattle.clock_rules.specs.Clock.{tops};
 ghost use Rattle.clock_rules.specs.Trace.{lines_at};
 ghost use Rattle.clock_marks.specs.Marks.{board_of};
 ghost use Rattle.clock_lines.specs.Told.{RoomAt};
 ghost use Rattle.clock_nexts.specs.Nexts.{Nexts};
-ghost use Rattle.clock_going.specs.Going.{timing_by, Going};
+ghost use Rattle.clock_going.specs.Lent.{GoingOf, timing};
 ghost use Rattle.clock_releases.specs.Opens.{Opening};
 
+use board_rules::PlanView;
 use clock_releases::Opened;
-use plan::{OverrunChoice, Policy};
 
 // Tick t opens: its tops, then its releases; where a job is missed, the tops alone. Where nothing is due nothing is written.
 pub fn open(
     on: bool,
-    policy: Policy,
-    choice: OverrunChoice,
-    view: &[u64],
+    plan: &PlanView,
     times: &[u64],
     left: &mut [u64],
     over: &mut [u64],
@@ -32,12 +30,11 @@ pub fn open(
     out: &mut [u8],
     at: usize,
 ) -> Opened
-    requires { Going policy choice view.now times.now left.old over.old stopped.old holder.now waits.now marks.old × Nexts times.now nexts.old t × (t ≤ 1000000) × RoomAt on (lines_at (facts_in policy choice view.now) t (board_of left.old over.old stopped.old holder.now waits.now) (tops (timing_by policy choice view.now times.now) t)) out.old at }
-    ensures { Opening policy choice view.now times.now on t left.old over.old stopped.old holder.now waits.now marks.old out.old at left.new over.new stopped.new marks.new nexts.new out.new result.at result.v result.n }
+    requires { GoingOf plan.now times.now left.old over.old stopped.old holder.now waits.now marks.old × Nexts times.now nexts.old t × (t ≤ 1000000) × RoomAt on (lines_at (facts plan.now) t (board_of left.old over.old stopped.old holder.now waits.now) (tops (timing plan.now times.now) t)) out.old at }
+    ensures { Opening plan.now.policy plan.now.overrun plan.now.view.now times.now on t left.old over.old stopped.old holder.now waits.now marks.old out.old at left.new over.new stopped.new marks.new nexts.new out.new result.at result.v result.n }
 {
     let w = clock_tops::tops_due(
-        on, policy, choice, view, times, left, over, stopped, holder, waits, marks, nexts, t, out,
-        at,
+        on, plan, times, left, over, stopped, holder, waits, marks, nexts, t, out, at,
     );
     clock_releases::jobs_due(times, marks, nexts, t, w)
 }

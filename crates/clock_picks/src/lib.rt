@@ -58,8 +58,7 @@ fn pick_ranked(view: &[u64], waits: &[u8], marks: &[u64], v: u64, set: u64) -> u
 {
     let mut best = 0;
     let mut high = 0;
-    let mut n: u64 = 8;
-    while 0 < n {
+    for n in (1..=8).rev() {
         if clock_sets::has(set, n) {
             let p = rank(view, waits, v, at(marks, 35 + board_seats::seat(v, n)), n);
             if high < p {
@@ -67,7 +66,6 @@ fn pick_ranked(view: &[u64], waits: &[u8], marks: &[u64], v: u64, set: u64) -> u
                 best = n;
             }
         }
-        n -= 1;
     }
     best
 }

@@ -15,7 +15,7 @@ use plan::Policy;
 pub fn sooner(a: u64, b: u64) -> u64
     ensures { (result ≤ a) × (result ≤ b) × (result ≡ nexts.sooner a b) }
 {
-    if a < b { a } else { b }
+    a.min(b)
 }
 
 // For how many ticks the job of (v, n), which is unfinished, neither ends nor ends a section, nor asks for a mutex.

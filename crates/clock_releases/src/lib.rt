@@ -31,12 +31,10 @@ fn release_in(times: &[u64], marks: &mut [u64], nexts: &[u64], v: u64, t: u64)
     requires { Sized marks.old × (length nexts.now ≡ 162) × (0 < v) × (v ≤ 16) }
     ensures { Releases times.now marks.old nexts.now t (seat v 0) (seat v 8) marks.new }
 {
-    let mut n: u64 = 0;
-    while n < 8 {
+    for n in 0u64..8 {
         if clock_misses::is_due(nexts, 15 + board_seats::seat(v, n + 1), t) {
             release(times, marks, v, n + 1);
         }
-        n += 1;
     }
 }
 
@@ -45,12 +43,10 @@ fn releases(times: &[u64], marks: &mut [u64], nexts: &[u64], t: u64)
     requires { Sized marks.old × (length nexts.now ≡ 162) × Jobs times.now nexts.now t }
     ensures { Releases times.now marks.old nexts.now t 0 128 marks.new }
 {
-    let mut i = 0;
-    while i < 16 {
+    for i in 0..16 {
         if nexts[144 + i] == t {
             release_in(times, marks, nexts, i as u64 + 1, t);
         }
-        i += 1;
     }
 }
 

@@ -10,10 +10,8 @@ fn soonest(nexts: &[u64], a: usize, e: usize) -> u64
     ensures { Soonest (λ j. get_or nexts.now j 0) a e result }
 {
     let mut r = 3000000;
-    let mut i = a;
-    while i < e {
-        r = clock_nexts::sooner(nexts[i], r);
-        i += 1;
+    for x in &nexts[a..e] {
+        r = clock_nexts::sooner(*x, r);
     }
     r
 }
@@ -50,12 +48,10 @@ fn renew_rows(times: &[u64], nexts: &mut [u64], t: u64)
     requires { Periods times.now × (length nexts.old ≡ 162) × Jobs times.now nexts.old t × (t ≤ 1000000) }
     ensures { RowsRenewed times.now nexts.old nexts.new t 16 }
 {
-    let mut i = 0;
-    while i < 16 {
+    for i in 0..16 {
         if nexts[144 + i] == t {
             clock_nexts::renew_row(times, nexts, i + 1, t);
         }
-        i += 1;
     }
 }
 

@@ -1,5 +1,5 @@
 -- One task a core: what a core's turn consists of, and whose job it takes on.
-use Rattle.std.specs.Prelude.{ℕ, ◌+◌, ◌-◌, ◌<◌, ◌≡◌, refl, Bool, ◌&&◌, ltb, get_or}
+use Rattle.std.specs.Prelude.{ℕ, ◌+◌, ◌-◌, ◌<◌, ◌≡◌, refl, Bool, ◌&&◌, ltb, get_or, Ok, Err}
 use Rattle.std.proofs.Common.{ap, ◌∙◌, eqb-true, ltb-true}
 use Rattle.std.proofs.Math.Path.{subst₂}
 use Rattle.std.proofs.Math.Bool.{true, false}
@@ -11,8 +11,7 @@ use Rattle.laws.specs.RangeLaws.{any_hit}
 use Rattle.laws.specs.Sums.{Each}
 use Rattle.laws.specs.BoolLaws.{both_left, both_right, clash}
 use Rattle.plan.specs.Limits.{max_v, most_n}
-use Rattle.plan.specs.declared.Fault.{Fault}
-use Rattle.plan.specs.declared.Fault.TheVariants.{Clear, Bad}
+use Rattle.plan.specs.Refusals.{Fault}
 use Rattle.board_rules.specs.Facts.{Facts}
 use Rattle.board_rules.specs.declared.Board.{Board}
 use Rattle.board_rules.specs.declared.Event.{Event}
@@ -38,8 +37,8 @@ kept_waits F b v n m = at_fault (ask_fault F b v n m)
     at_test false e = rw e (λ q. absurd (clash refl q))
 
     at_fault : (x : Fault) → is_wait (answered b x (board.asked F b v n m)).answer ≡ false → (answered b x (board.asked F b v n m)).board.waits ≡ b.waits
-    at_fault Clear = at_test (may_have F b v n m) refl
-    at_fault (Bad r) = λ q. refl
+    at_fault (Ok tt) = at_test (may_have F b v n m) refl
+    at_fault (Err r) = λ q. refl
 
 -- WHO IS PICKED
 

@@ -1,5 +1,5 @@
 -- The lines of events that are not refused: their numbers are low, so that each line has at most 192 bytes.
-use Rattle.std.specs.Prelude.{ℕ, ◌+◌, ◌*◌, ◌^◌, ◌≤◌, ◌<◌, max, ◌≡◌, refl, Bool, true, false, eqb, length}
+use Rattle.std.specs.Prelude.{ℕ, ◌+◌, ◌*◌, ◌^◌, ◌≤◌, ◌<◌, max, ◌≡◌, refl, Bool, true, false, eqb, length, Ok, Err}
 use Rattle.std.proofs.Common.{sym, true≢false, ⊎_elim}
 use Rattle.std.proofs.Math.Path.{subst}
 use mathlib.Core.List.{List, [], ◌∷◌}
@@ -10,8 +10,7 @@ use Rattle.laws.specs.BoolLaws.{bool_cases}
 use Rattle.laws.specs.RangeLaws.{highest_le}
 use Rattle.plan.specs.Limits.{most_n}
 use Rattle.plan.specs.declared.Refusal.TheVariants.{Unknown}
-use Rattle.plan.specs.declared.Fault.{Fault}
-use Rattle.plan.specs.declared.Fault.TheVariants.{Clear, Bad}
+use Rattle.plan.specs.Refusals.{Fault}
 use Rattle.plan.specs.JudgeLaws.{clear_test}
 use Rattle.board_rules.specs.Facts.{Facts}
 use Rattle.board_rules.specs.declared.Board.{Board}
@@ -43,9 +42,9 @@ record Low (e : Event) (a : BoardAnswer) : Type 0 where
   answer : AnswerLow a
 
 -- an event that is not refused has no fault
-no_fault : (b : Board) (x : Fault) (o : Outcome) → is_refusal (answered b x o).answer ≡ false → x ≡ Clear
-no_fault b Clear o e = refl
-no_fault b (Bad r) o e = absurd (true≢false e)
+no_fault : (b : Board) (x : Fault) (o : Outcome) → is_refusal (answered b x o).answer ≡ false → x ≡ Ok tt
+no_fault b (Ok tt) o e = refl
+no_fault b (Err r) o e = absurd (true≢false e)
 
 -- WHO GETS A FREED MUTEX
 
@@ -86,7 +85,7 @@ module _ {F : Facts} (f : Fair F) (s : Small F) where
 
   -- EACH EVENT that has no fault
   module _ {b : Board} (h : Shaped b) (g : good F b ≡ true) where
-    ask_low : (v n m : ℕ) → ask_fault F b v n m ≡ Clear → Low (Ask v n m) (step F b (Ask v n m)).answer
+    ask_low : (v n m : ℕ) → ask_fault F b v n m ≡ Ok tt → Low (Ask v n m) (step F b (Ask v n m)).answer
     ask_low v n m e =
         let l = (ask_clear F b v n m e).listed in
         let i = sheet_v f v n m l in
@@ -97,7 +96,7 @@ module _ {F : Facts} (f : Fair F) (s : Small F) where
           answer = ⊎_elim (λ q. rw (ask_granted F b v n m e q) tt) (λ q. rw (ask_waits F b v n m e q) tt) (bool_cases (may_have F b v n m));
         }
 
-    free_low : (v n m : ℕ) → free_fault F b v n m ≡ Clear → Low (Free v n m) (step F b (Free v n m)).answer
+    free_low : (v n m : ℕ) → free_fault F b v n m ≡ Ok tt → Low (Free v n m) (step F b (Free v n m)).answer
     free_low v n m e =
         let c = free_clear F b v n m e in
         let i = task_v f v n c.task in
@@ -110,7 +109,7 @@ module _ {F : Facts} (f : Fair F) (s : Small F) where
               (λ q. rw (free_local F b v n m e q) (local_low i (local_next F (with_holder b m 0) v))) (bool_cases (F.global m));
         }
 
-    use_low : (v t : ℕ) → use_fault F b v t ≡ Clear → Low (Use v t) (step F b (Use v t)).answer
+    use_low : (v t : ℕ) → use_fault F b v t ≡ Ok tt → Low (Use v t) (step F b (Use v t)).answer
     unfolding used settled
     use_low v t e =
         let c = use_clear F b v t e in
@@ -124,7 +123,7 @@ module _ {F : Facts} (f : Fair F) (s : Small F) where
               (left_low (used F b v t).board (subst (λ (o : Outcome). good F o.board ≡ true) is (step_keeps f h g (Use v t))) v i);
         }
 
-    top_low : (v : ℕ) → top_fault F v ≡ Clear → Low (Top v) (step F b (Top v)).answer
+    top_low : (v : ℕ) → top_fault F v ≡ Ok tt → Low (Top v) (step F b (Top v)).answer
     unfolding topped settled
     top_low v e =
         let c = top_clear F v e in
@@ -137,10 +136,10 @@ module _ {F : Facts} (f : Fair F) (s : Small F) where
               (left_low (topped F b v).board (subst (λ (o : Outcome). good F o.board ≡ true) is (step_keeps f h g (Top v))) v i);
         }
 
-    show_low : (v n : ℕ) → show_fault F v n ≡ Clear → Low (Show v n) (step F b (Show v n)).answer
+    show_low : (v n : ℕ) → show_fault F v n ≡ Ok tt → Low (Show v n) (step F b (Show v n)).answer
     unfolding step
     show_low v n e =
-        let c = clear_test (F.has_task v n) Unknown Clear (unfold show_fault in e) in
+        let c = clear_test (F.has_task v n) Unknown (Ok tt) (unfold show_fault in e) in
         let i = task_v f v n c in
         let j = f.task_in_law v n c in
         rw e (record { event = (omega arith, omega arith); answer = (omega (arith, task_low F b v n j.to), omega (arith, vcpu_low F b v i.to)) })

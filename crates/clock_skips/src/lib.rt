@@ -3,11 +3,11 @@
 
 ghost use Rattle.std.specs.Prelude.{◌<◌, ◌≤◌};
 ghost use Rattle.clock_marks.specs.Marks.{board_of, run_in, done_in};
-ghost use Rattle.clock_going.specs.Going.{timing_by, Going};
+ghost use Rattle.clock_going.specs.Lent.{GoingOf, timing};
 ghost use Rattle.clock_spends.specs.Spends.{Counted};
 ghost use Rattle.clock_skips.specs.Skips.{Coming, Stepping};
 
-use plan::{OverrunChoice, Policy};
+use board_rules::PlanView;
 
 // What a step of the run leaves: the task whose job is missed, 0 and 0 for none; whether the turns of the cores are still to be made, or, where the tick was opened, looked at; and the tick that it comes to with them.
 #[derive(Clone, Copy)]
@@ -21,9 +21,7 @@ pub struct Stepped {
 
 // Opens tick t of the run to h where something recurs at it; else spends as many ticks at once as no core's turn changes.
 pub fn stride(
-    policy: Policy,
-    choice: OverrunChoice,
-    view: &[u64],
+    plan: &PlanView,
     times: &[u64],
     left: &mut [u64],
     over: &mut [u64],
@@ -36,15 +34,14 @@ pub fn stride(
     t: u64,
     h: u64,
 ) -> Stepped
-    requires { Going policy choice view.now times.now left.old over.old stopped.old holder.old waits.old marks.old × Coming times.now nexts.old t × (t < h) × (h ≤ 1000000) × Counted (timing_by policy choice view.now times.now) (board_of left.old over.old stopped.old holder.old waits.old) (done_in marks.old) plain.old }
-    ensures { Stepping policy choice view.now times.now h t (run_in left.old over.old stopped.old holder.old waits.old marks.old) nexts.old left.new over.new stopped.new holder.new waits.new marks.new nexts.new plain.new result.v result.n result.to result.turns result.look }
+    requires { GoingOf plan.now times.now left.old over.old stopped.old holder.old waits.old marks.old × Coming times.now nexts.old t × (t < h) × (h ≤ 1000000) × Counted (timing plan.now times.now) (board_of left.old over.old stopped.old holder.old waits.old) (done_in marks.old) plain.old }
+    ensures { Stepping plan.now.policy plan.now.overrun plan.now.view.now times.now h t (run_in left.old over.old stopped.old holder.old waits.old marks.old) nexts.old left.new over.new stopped.new holder.new waits.new marks.new nexts.new plain.new result.v result.n result.to result.turns result.look }
 {
     let soon = clock_reaches::sooner(board_seats::at(nexts, 160), board_seats::at(nexts, 161));
     if soon <= t {
         let mut none = [0u8; 1];
         let o = clock_opens::open(
-            false, policy, choice, view, times, left, over, stopped, holder, waits, marks, nexts,
-            t, &mut none, 0,
+            false, plan, times, left, over, stopped, holder, waits, marks, nexts, t, &mut none, 0,
         );
         let v = o.v;
         let n = o.n;
@@ -77,7 +74,7 @@ pub fn stride(
             to: t + 1,
         };
     }
-    clock_spends::spend_all(policy, left, marks, plain, k);
+    clock_spends::spend_all(plan.policy, left, marks, plain, k);
     Stepped {
         v: 0,
         n: 0,

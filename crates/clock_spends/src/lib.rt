@@ -3,14 +3,15 @@
 
 ghost use Rattle.std.specs.Prelude.{◌≡◌, true, length, ◌+◌, ◌<◌, ◌≤◌};
 ghost use Rattle.clock_marks.specs.Marks.{board_of, done_in, done_cell, Sized};
-ghost use Rattle.clock_going.specs.Going.{timing_by, Going};
+ghost use Rattle.clock_going.specs.Lent.{GoingOf, timing};
 ghost use Rattle.clock_plains.specs.PlainMirrors.{kept_after};
 ghost use Rattle.clock_reaches.specs.Stretches.{plain_length};
 ghost use Rattle.clock_spends.specs.Spends.{Lost, lost_own, Spendable, Spending, PutAt, Put, Forgot};
 ghost use Rattle.clock_spends.specs.AllSpending.{AllReady, SpentAll};
 
+use board_rules::PlanView;
 use board_seats::{at, seat};
-use plan::{OverrunChoice, Policy};
+use plan::Policy;
 
 // Each of the set loses k ticks.
 fn lose(left: &mut [u64], set: u64, k: u64)
@@ -79,9 +80,7 @@ fn put(plain: &mut [u64], c: u64, k: u64, v: u64, n: u64)
 
 // For how many ticks core c's turn stays the same, by whom it picks and who idles.
 pub fn put_plain(
-    policy: Policy,
-    choice: OverrunChoice,
-    view: &[u64],
+    plan: &PlanView,
     times: &[u64],
     left: &[u64],
     over: &[u64],
@@ -92,17 +91,17 @@ pub fn put_plain(
     plain: &mut [u64],
     c: u64,
 )
-    requires { Going policy choice view.now times.now left.now over.now stopped.now holder.now waits.now marks.now × (length plain.old ≡ plain_length) × (c ≤ 3) }
-    ensures { Put (timing_by policy choice view.now times.now) (board_of left.now over.now stopped.now holder.now waits.now) (done_in marks.now) plain.old c plain.new }
+    requires { GoingOf plan.now times.now left.now over.now stopped.now holder.now waits.now marks.now × (length plain.old ≡ plain_length) × (c ≤ 3) }
+    ensures { Put (timing plan.now times.now) (board_of left.now over.now stopped.now holder.now waits.now) (done_in marks.now) plain.old c plain.new }
 {
     let v = clock_picks::pick_v(marks, c);
-    let set = clock_reaches::idling(policy, marks, c);
+    let set = clock_reaches::idling(plan.policy, marks, c);
     if v == 0 {
         let free = clock_reaches::bound(left, set, 3000000);
         put(plain, c, free, 0, 0);
         return;
     }
-    let n = clock_picks::pick_n(view, waits, marks, v);
+    let n = clock_picks::pick_n(plan.view, waits, marks, v);
     let most = clock_reaches::reach(times, left, holder, marks, v, n);
     let k = clock_reaches::bound(left, set, most);
     put(plain, c, k, v, n);
@@ -113,11 +112,7 @@ pub fn forget(plain: &mut [u64])
     requires { length plain.old ≡ plain_length }
     ensures { Forgot true plain.old plain.new }
 {
-    let mut i: usize = 0;
-    while i < 8 {
-        plain[i] = 0;
-        i += 1;
-    }
+    plain[..8].fill(0);
 }
 
 // k ticks of every core's turn.

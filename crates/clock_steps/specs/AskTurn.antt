@@ -1,11 +1,10 @@
 -- No ask of a core's turn is refused; after them every task is in step, and whoever uses the tick is awake and has what it needs.
-use Rattle.std.specs.Prelude.{ℕ, ◌≡◌, refl, true, false, ◌&&◌, List, eqb}
+use Rattle.std.specs.Prelude.{ℕ, ◌≡◌, refl, true, false, ◌&&◌, List, eqb, Ok}
 use Rattle.std.proofs.Common.{sym, ◌∙◌}
 use Rattle.std.proofs.Math.Path.{ap, subst}
 use Rattle.std.proofs.lemmas.Bool.{false≢true}
 use Rattle.std.proofs.Math.Logic.{⊎_elim}
 use Rattle.laws.specs.BoolLaws.{bool_cases, clash}
-use Rattle.plan.specs.declared.Fault.TheVariants.{Clear}
 use Rattle.board_rules.specs.declared.Board.{Board}
 use Rattle.board_rules.specs.declared.Event.TheVariants.{Ask}
 use Rattle.board_rules.specs.declared.Next.{Next}
@@ -57,7 +56,7 @@ wait_taken (Refused r) e = absurd (false≢true e)
 
 module _ {T : Timing} (p : Paced T) (c : ℕ) (d : List ℕ) where
   -- an ask that is due is in order
-  due_clear : {b : Board} (v n m : ℕ) → Running T b d → Chosen T c b d v n → Due T b d v n m → ask_fault T.facts b v n m ≡ Clear
+  due_clear : {b : Board} (v n m : ℕ) → Running T b d → Chosen T c b d v n → Due T b d v n m → ask_fault T.facts b v n m ≡ Ok tt
   due_clear {b} v n m g q r =
       let F = T.facts in
       let f = p.fair in

@@ -1,6 +1,6 @@
 -- The picks of a turn end: each wait leaves one ready task less on the core, so that one pick more than there are seats is enough.
 use Prim.Native.Nat.{ℕ, zero, suc, ◌*◌, ◌≤◌, ◌<◌}
-use Rattle.std.specs.Prelude.{◌≡◌, refl, Bool, true, false, ◌&&◌, List, eqb}
+use Rattle.std.specs.Prelude.{◌≡◌, refl, Bool, true, false, ◌&&◌, List, eqb, Ok, Err}
 use Rattle.std.proofs.Common.{sym, subst, ◌∙◌, ⊎_elim, arith, eqb-true}
 use Rattle.std.proofs.Math.Path.{ap}
 use Rattle.std.proofs.lemmas.Bool.{false≢true, eqb-false}
@@ -8,8 +8,7 @@ use Rattle.std.specs.Prelude.{if◌then◌else◌}
 use Rattle.laws.specs.Choice.{when}
 use Rattle.laws.specs.BoolLaws.{both, both_right, clash, bool_cases, same_or_not, is_false}
 use Rattle.plan.specs.Limits.{max_v, most_n}
-use Rattle.plan.specs.declared.Fault.{Fault}
-use Rattle.plan.specs.declared.Fault.TheVariants.{Clear, Bad}
+use Rattle.plan.specs.Refusals.{Fault}
 use Rattle.board_rules.specs.Facts.{Facts}
 use Rattle.board_rules.specs.declared.Board.{Board}
 use Rattle.board_rules.specs.declared.Event.TheVariants.{Ask}
@@ -72,10 +71,10 @@ pub waits_board : (F : Facts) (b : Board) (v n m : ℕ) → is_wait (step F b (A
 waits_board F b v n m w = at_fault (ask_fault F b v n m) refl
   where
     at_fault : (x : Fault) → ask_fault F b v n m ≡ x → (step F b (Ask v n m)).board ≡ settled F (with_wait b v n m)
-    at_fault Clear e =
+    at_fault (Ok tt) e =
         ⊎_elim (λ h. absurd (clash w (ap (λ (o : Outcome). is_wait o.answer) (ask_granted F b v n m e h))))
         (λ h. ap (λ (o : Outcome). o.board) (ask_waits F b v n m e h)) (bool_cases (may_have F b v n m))
-    at_fault (Bad r) e = absurd (clash w (unfold step in ap (λ x. is_wait (answered b x (asked F b v n m)).answer) e))
+    at_fault (Err r) e = absurd (clash w (unfold step in ap (λ x. is_wait (answered b x (asked F b v n m)).answer) e))
 
 module _ (T : Timing) (c : ℕ) (d : List ℕ) {b b' : Board} (s : Shaped b) (v n m : ℕ) (q : Chosen T c b d v n) (nz : m ≡ 0 → ⊥) (to : b' ≡ settled T.facts (with_wait b v n m)) where
   -- the task that asked waits for m

@@ -1,8 +1,7 @@
 -- `ask` and `free` on a board that is in step.
-use Rattle.std.specs.Prelude.{ℕ, ◌≡◌, refl, true}
+use Rattle.std.specs.Prelude.{ℕ, ◌≡◌, refl, true, Ok}
 use Rattle.std.proofs.Common.{sym, ap, subst, ◌∙◌, ⊎_elim, arith}
 use Rattle.laws.specs.BoolLaws.{bool_cases, same_or_not}
-use Rattle.plan.specs.declared.Fault.TheVariants.{Clear}
 use Rattle.board_rules.specs.Facts.{Facts}
 use Rattle.board_rules.specs.declared.Board.{Board}
 use Rattle.board_rules.specs.declared.Event.TheVariants.{Ask, Free}
@@ -36,7 +35,7 @@ settled_in_step T F b D g = g
 
 module _ {T : Timing} (p : Paced T) {b : Board} (s : Shaped b) (g : good T.facts b ≡ true) where
   -- `ask v n m` where a section on m begins: granted or not
-  pub ask_in_step : {D : ℕ → ℕ → ℕ} (v n m : ℕ) → ask_fault T.facts b v n m ≡ Clear → T.begins v n (D v n) ≡ m → InStepOn T b D → InStepOn T (step T.facts b (Ask v n m)).board D
+  pub ask_in_step : {D : ℕ → ℕ → ℕ} (v n m : ℕ) → ask_fault T.facts b v n m ≡ Ok tt → T.begins v n (D v n) ≡ m → InStepOn T b D → InStepOn T (step T.facts b (Ask v n m)).board D
   ask_in_step {D} v n m e h k =
       let F = T.facts in
       let f = p.fair in
@@ -87,7 +86,7 @@ module _ {T : Timing} (p : Paced T) {b : Board} (s : Shaped b) (g : good T.facts
       (wait_new (holder_shaped a (seat v t) (holder_shaped m 0 s)) v t 0 i q) (λ x z d u ne. wait_else b₂ v t 0 x z i q d u ne)
 
   -- `free v n m` where m alone was held, and the board with m free is in step
-  pub free_in_step : {D : ℕ → ℕ → ℕ} (v n m : ℕ) → InV v → InM m → free_fault T.facts b v n m ≡ Clear → InStepOn T (with_holder b m 0) D → InStepOn T (step T.facts b (Free v n m)).board D
+  pub free_in_step : {D : ℕ → ℕ → ℕ} (v n m : ℕ) → InV v → InM m → free_fault T.facts b v n m ≡ Ok tt → InStepOn T (with_holder b m 0) D → InStepOn T (step T.facts b (Free v n m)).board D
   free_in_step {D} v n m i l e k =
       let F = T.facts in
       ⊎_elim

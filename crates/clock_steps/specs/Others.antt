@@ -1,11 +1,10 @@
 -- Every event leaves the overruns of the VCPUs that it does not name.
-use Rattle.std.specs.Prelude.{ℕ, ◌-◌, ◌≡◌, get_or}
+use Rattle.std.specs.Prelude.{ℕ, ◌-◌, ◌≡◌, get_or, Ok, Err}
 use Rattle.std.proofs.Math.Path.{refl, ap}
 use Rattle.std.proofs.Common.{◌∙◌}
 use Rattle.std.proofs.Math.Logic.{⊎_elim}
 use Rattle.laws.specs.BoolLaws.{bool_cases}
-use Rattle.plan.specs.declared.Fault.{Fault}
-use Rattle.plan.specs.declared.Fault.TheVariants.{Clear, Bad}
+use Rattle.plan.specs.Refusals.{Fault}
 use Rattle.board_rules.specs.Facts.{Facts}
 use Rattle.board_rules.specs.declared.Board.{Board}
 use Rattle.board_rules.specs.declared.Event.{Event}
@@ -41,9 +40,9 @@ module _ (F : Facts) (b : Board) where
   ask_over v n m = at_fault (ask_fault F b v n m) refl
     where
       at_fault : (x : Fault) → ask_fault F b v n m ≡ x → (step F b (Ask v n m)).board.over ≡ b.over
-      at_fault Clear e =
+      at_fault (Ok tt) e =
           ⊎_elim (λ h. ap (λ (o : Outcome). o.board.over) (ask_granted F b v n m e h)) (λ h. ap (λ (o : Outcome). o.board.over) (ask_waits F b v n m e h)) (bool_cases (may_have F b v n m))
-      at_fault (Bad r) e = unfold step in ap (λ x. (answered b x (asked F b v n m)).board.over) e
+      at_fault (Err r) e = unfold step in ap (λ x. (answered b x (asked F b v n m)).board.over) e
 
   -- `free`, whoever is next
   free_over : (v n m : ℕ) → (step F b (Free v n m)).board.over ≡ b.over
@@ -51,10 +50,10 @@ module _ (F : Facts) (b : Board) where
   free_over v n m = at_fault (free_fault F b v n m) refl
     where
       at_fault : (x : Fault) → free_fault F b v n m ≡ x → (step F b (Free v n m)).board.over ≡ b.over
-      at_fault Clear e =
+      at_fault (Ok tt) e =
           ⊎_elim (λ h. ap (λ (o : Outcome). o.board.over) (free_global F b v n m e h) ∙ handed_over b m (next_global b m))
           (λ h. ap (λ (o : Outcome). o.board.over) (free_local F b v n m e h) ∙ granted_over (with_holder b m 0) (next_local F (with_holder b m 0) v)) (bool_cases (F.global m))
-      at_fault (Bad r) e = unfold step in ap (λ x. (answered b x (freed F b v m)).board.over) e
+      at_fault (Err r) e = unfold step in ap (λ x. (answered b x (freed F b v m)).board.over) e
 
   -- `show`, which only reads
   show_over : (v n : ℕ) → (step F b (Show v n)).board.over ≡ b.over
@@ -62,8 +61,8 @@ module _ (F : Facts) (b : Board) where
   show_over v n = at_fault (show_fault F v n)
     where
       at_fault : (x : Fault) → (answered b x (shown F b v n)).board.over ≡ b.over
-      at_fault Clear = refl
-      at_fault (Bad r) = refl
+      at_fault (Ok tt) = refl
+      at_fault (Err r) = refl
 
 -- `top v` leaves those of the other VCPUs
 top_over : {F : Facts} (f : Fair F) (b : Board) (v w : ℕ) → InV w → (w ≡ v → ⊥) → over_of (step F b (Top v)).board w ≡ over_of b w
@@ -71,8 +70,8 @@ unfolding step topped settled
 top_over {F} f b v w j ne = at_fault (top_fault F v) refl
   where
     at_fault : (x : Fault) → top_fault F v ≡ x → over_of (answered b x (topped F b v)).board w ≡ over_of b w
-    at_fault Clear e = over_else b v (F.budget v) (F.overrun v) w (f.vcpu_in v (top_clear F v e)) j ne
-    at_fault (Bad r) e = refl
+    at_fault (Ok tt) e = over_else b v (F.budget v) (F.overrun v) w (f.vcpu_in v (top_clear F v e)) j ne
+    at_fault (Err r) e = refl
 
 -- so every event leaves those of the VCPUs that it does not name
 pub step_over : {F : Facts} (f : Fair F) (b : Board) (e : Event) (w : ℕ) → InV w → (w ≡ own_vcpu e → ⊥) → over_of (step F b e).board w ≡ over_of b w

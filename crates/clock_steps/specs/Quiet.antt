@@ -1,11 +1,10 @@
 -- `use` and `top` leave all locks: who holds, and who waits.
-use Rattle.std.specs.Prelude.{ℕ, ◌-◌, ◌≡◌, ◌&&◌, eqb, get_or}
+use Rattle.std.specs.Prelude.{ℕ, ◌-◌, ◌≡◌, ◌&&◌, eqb, get_or, Ok, Err}
 use Rattle.std.proofs.Math.Path.{refl}
 use Rattle.std.proofs.Common.{sym, ap, subst, ◌∙◌}
 use Rattle.laws.specs.Range.{any_to}
 use Rattle.plan.specs.Limits.{max_m, most_n}
-use Rattle.plan.specs.declared.Fault.{Fault}
-use Rattle.plan.specs.declared.Fault.TheVariants.{Clear, Bad}
+use Rattle.plan.specs.Refusals.{Fault}
 use Rattle.board_rules.specs.Facts.{Facts}
 use Rattle.board_rules.specs.declared.Board.{Board}
 use Rattle.board_rules.specs.declared.Event.TheVariants.{Use, Top}
@@ -47,8 +46,8 @@ module _ (F : Facts) (b : Board) where
   use_locks v t = at_fault (use_fault F b v t)
     where
       at_fault : (x : Fault) → SameLocks b (answered b x (used F b v t)).board
-      at_fault Clear = record { holder_same = refl; waits_same = refl }
-      at_fault (Bad r) = record { holder_same = refl; waits_same = refl }
+      at_fault (Ok tt) = record { holder_same = refl; waits_same = refl }
+      at_fault (Err r) = record { holder_same = refl; waits_same = refl }
 
   -- `top v`, whatever is answered
   pub top_locks : (v : ℕ) → SameLocks b (step F b (Top v)).board
@@ -56,8 +55,8 @@ module _ (F : Facts) (b : Board) where
   top_locks v = at_fault (top_fault F v)
     where
       at_fault : (x : Fault) → SameLocks b (answered b x (topped F b v)).board
-      at_fault Clear = record { holder_same = refl; waits_same = refl }
-      at_fault (Bad r) = record { holder_same = refl; waits_same = refl }
+      at_fault (Ok tt) = record { holder_same = refl; waits_same = refl }
+      at_fault (Err r) = record { holder_same = refl; waits_same = refl }
 
 -- `use v t` leaves the budget and the overrun of every other VCPU
 module _ {F : Facts} (f : Fair F) (b : Board) (v t w : ℕ) (j : InV w) (ne : w ≡ v → ⊥) where
@@ -67,8 +66,8 @@ module _ {F : Facts} (f : Fair F) (b : Board) (v t w : ℕ) (j : InV w) (ne : w 
   use_left = at_fault (use_fault F b v t) refl
     where
       at_fault : (x : Fault) → use_fault F b v t ≡ x → left_of (answered b x (used F b v t)).board w ≡ left_of b w
-      at_fault Clear e = left_else b v (left_of b v - t) (over_of b v - (t - left_of b v)) w (f.vcpu_in v (use_clear F b v t e).vcpu) j ne
-      at_fault (Bad r) e = refl
+      at_fault (Ok tt) e = left_else b v (left_of b v - t) (over_of b v - (t - left_of b v)) w (f.vcpu_in v (use_clear F b v t e).vcpu) j ne
+      at_fault (Err r) e = refl
 
   -- of its overrun, o
   pub use_over : over_of (step F b (Use v t)).board w ≡ over_of b w
@@ -76,5 +75,5 @@ module _ {F : Facts} (f : Fair F) (b : Board) (v t w : ℕ) (j : InV w) (ne : w 
   use_over = at_fault (use_fault F b v t) refl
     where
       at_fault : (x : Fault) → use_fault F b v t ≡ x → over_of (answered b x (used F b v t)).board w ≡ over_of b w
-      at_fault Clear e = over_else b v (left_of b v - t) (over_of b v - (t - left_of b v)) w (f.vcpu_in v (use_clear F b v t e).vcpu) j ne
-      at_fault (Bad r) e = refl
+      at_fault (Ok tt) e = over_else b v (left_of b v - t) (over_of b v - (t - left_of b v)) w (f.vcpu_in v (use_clear F b v t e).vcpu) j ne
+      at_fault (Err r) e = refl

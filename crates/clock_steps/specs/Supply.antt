@@ -1,5 +1,5 @@
 -- What is left of a VCPU's supply: an ask lowers none, and a use of another VCPU leaves it.
-use Rattle.std.specs.Prelude.{ℕ, ◌-◌, ◌≤◌, ◌≡◌, refl, Bool, true, false}
+use Rattle.std.specs.Prelude.{ℕ, ◌-◌, ◌≤◌, ◌≡◌, refl, Bool, true, false, Ok, Err}
 use Rattle.std.proofs.Common.{sym, ◌∙◌, ⊎_elim, arith, ne_eqb}
 use Rattle.std.proofs.Math.Path.{ap}
 use Rattle.std.proofs.lemmas.Bool.{eqb-false}
@@ -7,8 +7,7 @@ use Rattle.std.proofs.Math.ListN.{get_or}
 use Rattle.laws.specs.BoolLaws.{clash, bool_cases}
 use Rattle.plan.specs.declared.OverrunChoice.{OverrunChoice}
 use Rattle.plan.specs.declared.OverrunChoice.TheVariants.{WithOverrun, WithoutOverrun}
-use Rattle.plan.specs.declared.Fault.{Fault}
-use Rattle.plan.specs.declared.Fault.TheVariants.{Clear, Bad}
+use Rattle.plan.specs.Refusals.{Fault}
 use Rattle.board_rules.specs.Facts.{Facts}
 use Rattle.board_rules.specs.declared.Board.{Board}
 use Rattle.board_rules.specs.declared.Event.TheVariants.{Ask, Use}
@@ -64,7 +63,7 @@ module _ {F : Facts} {b : Board} (f : Fair F) (s : Shaped b) (g : good F b ≡ t
   ask_supply v n m w i = at_fault (ask_fault F b v n m) refl
     where
       at_fault : (x : Fault) → ask_fault F b v n m ≡ x → supply F b w ≤ supply F (step F b (Ask v n m)).board w
-      at_fault Clear e =
+      at_fault (Ok tt) e =
           let c = ask_clear F b v n m e in
           let k = sheet_m f v n m c.listed in
           ⊎_elim
@@ -82,7 +81,7 @@ module _ {F : Facts} {b : Board} (f : Fair F) (s : Shaped b) (g : good F b ≡ t
           })))
           (λ h. rw (ask_waits F b v n m e h) (locks_supply (with_wait b v n m) refl refl refl w i (λ r. r)))
           (bool_cases (may_have F b v n m))
-      at_fault (Bad r) e = unfold step in rw e (omega arith)
+      at_fault (Err r) e = unfold step in rw e (omega arith)
 
   -- `use` of a VCPU leaves the supply and the budget of the others
   pub use_supply : (v t : ℕ) (w : ℕ) → InV w → (w ≡ v → ⊥) → supply F (step F b (Use v t)).board w ≡ supply F b w

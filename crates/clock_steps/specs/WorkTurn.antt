@@ -1,5 +1,5 @@
 -- The picked task's tick is not refused, and neither is the `free` where its section is over; after it every task is in step.
-use Rattle.std.specs.Prelude.{ℕ, ◌+◌, ◌-◌, ◌*◌, ◌<◌, ◌≡◌, Bool, ◌&&◌, not, ltb, length, get_or, set}
+use Rattle.std.specs.Prelude.{ℕ, ◌+◌, ◌-◌, ◌*◌, ◌<◌, ◌≡◌, Bool, ◌&&◌, not, ltb, length, get_or, set, Ok}
 use Rattle.std.proofs.Math.Path.{refl}
 use Rattle.std.proofs.Common.{sym, ap, subst, ◌∙◌, ⊎_elim, length-set}
 use Rattle.std.proofs.Math.Bool.{true, false}
@@ -10,7 +10,6 @@ use Rattle.std.specs.Prelude.{if◌then◌else◌}
 use Rattle.laws.specs.RangeLaws.{any_hit}
 use Rattle.laws.specs.BoolLaws.{both_left, miss_right, bool_cases}
 use Rattle.plan.specs.Limits.{max_v, most_n}
-use Rattle.plan.specs.declared.Fault.TheVariants.{Clear}
 use Rattle.board_rules.specs.Facts.{Facts}
 use Rattle.board_rules.specs.declared.Board.{Board}
 use Rattle.board_rules.specs.declared.Event.TheVariants.{Free, Use}
@@ -85,7 +84,7 @@ module _ {T : Timing} (p : Paced T) (c : ℕ) {b : Board} {d : List ℕ} (g : Ru
   idle_running = still_running p g (idle_uses T c b d) (same_in_step (idle_locks p c g) g.in_step)
 
 -- A `free` THAT IS IN ORDER is answered
-free_answered : (F : Facts) (b : Board) (v n m : ℕ) → free_fault F b v n m ≡ Clear → is_refusal (step F b (Free v n m)).answer ≡ false
+free_answered : (F : Facts) (b : Board) (v n m : ℕ) → free_fault F b v n m ≡ Ok tt → is_refusal (step F b (Free v n m)).answer ≡ false
 free_answered F b v n m e =
     ⊎_elim (λ q. ap (λ (o : Outcome). is_refusal o.answer) (free_global F b v n m e q)) (λ q. ap (λ (o : Outcome). is_refusal o.answer) (free_local F b v n m e q)) (bool_cases (F.global m))
 
@@ -114,7 +113,7 @@ module _ {T : Timing} (p : Paced T) {b : Board} {d : List ℕ} (g : Running T b 
     holds_end = end_held p (g.in_step v n i j) all m e nz
 
     -- so its `free` is in order
-    frees_clear : free_fault T.facts b v n m ≡ Clear
+    frees_clear : free_fault T.facts b v n m ≡ Ok tt
     frees_clear = free_taken T.facts b v n m task (p.fair.sheet_mutex v n m ends_listed) holds_end
 
     -- the section on m is over

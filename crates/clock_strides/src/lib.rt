@@ -4,13 +4,14 @@
 ghost use Rattle.std.specs.Prelude.{◌≡◌, true, false, length, ◌≤◌};
 ghost use Rattle.clock_marks.specs.Marks.{board_of, run_in, done_in};
 ghost use Rattle.clock_rules.specs.Clock as clock;
-ghost use Rattle.clock_going.specs.Going.{timing_by, Going};
+ghost use Rattle.clock_going.specs.Lent.{GoingOf, timing};
 ghost use Rattle.clock_reaches.specs.Stretches.{plain_length};
 ghost use Rattle.clock_spends.specs.Spends.{Counted, Forgot};
-ghost use Rattle.clock_strides.specs.Strides.{turn_or, turns_or, Strided, Others};
+ghost use Rattle.clock_strides.specs.Strides.{turn_or, turns_or, Others};
+ghost use Rattle.clock_strides.specs.Lent.{StridedOf};
 
+use board_rules::PlanView;
 use board_seats::at;
-use plan::{OverrunChoice, Policy};
 
 // A mutex that is handed on makes a task ready on any core.
 fn forget_if(handed: bool, plain: &mut [u64])
@@ -25,9 +26,7 @@ fn forget_if(handed: bool, plain: &mut [u64])
 
 // Core c's turn at tick t, with whether all is known of it then. Where `look`, it takes none.
 fn taken(
-    policy: Policy,
-    choice: OverrunChoice,
-    view: &[u64],
+    plan: &PlanView,
     times: &[u64],
     left: &mut [u64],
     over: &mut [u64],
@@ -40,22 +39,20 @@ fn taken(
     t: u64,
     look: bool,
 ) -> bool
-    requires { Going policy choice view.now times.now left.old over.old stopped.old holder.old waits.old marks.old × Counted (timing_by policy choice view.now times.now) (board_of left.old over.old stopped.old holder.old waits.old) (done_in marks.old) plain.old × (c ≤ 3) }
-    ensures { (result ≡ true → Strided policy choice view.now times.now (turn_or look (timing_by policy choice view.now times.now) c (run_in left.old over.old stopped.old holder.old waits.old marks.old)) left.new over.new stopped.new holder.new waits.new marks.new plain.new) × (result ≡ false → Others policy choice view.now times.now c (turn_or look (timing_by policy choice view.now times.now) c (run_in left.old over.old stopped.old holder.old waits.old marks.old)) left.new over.new stopped.new holder.new waits.new marks.new plain.new) }
+    requires { GoingOf plan.now times.now left.old over.old stopped.old holder.old waits.old marks.old × Counted (timing plan.now times.now) (board_of left.old over.old stopped.old holder.old waits.old) (done_in marks.old) plain.old × (c ≤ 3) }
+    ensures { (result ≡ true → StridedOf plan.now times.now (turn_or look (timing plan.now times.now) c (run_in left.old over.old stopped.old holder.old waits.old marks.old)) left.new over.new stopped.new holder.new waits.new marks.new plain.new) × (result ≡ false → Others plan.now.policy plan.now.overrun plan.now.view.now times.now c (turn_or look (timing plan.now times.now) c (run_in left.old over.old stopped.old holder.old waits.old marks.old)) left.new over.new stopped.new holder.new waits.new marks.new plain.new) }
 {
     if look {
         return false;
     }
     if 0 < at(plain, c) {
-        clock_spends::spend(policy, left, marks, plain, c, 1);
+        clock_spends::spend(plan.policy, left, marks, plain, c, 1);
         return true;
     }
     let mut none = [0u8; 1];
     let r = clock_turns::turn(
         false,
-        policy,
-        choice,
-        view,
+        plan,
         times,
         left,
         over,
@@ -76,9 +73,7 @@ fn taken(
 
 // The same, and it is found out for how long core c's turn stays the same.
 fn turn_on(
-    policy: Policy,
-    choice: OverrunChoice,
-    view: &[u64],
+    plan: &PlanView,
     times: &[u64],
     left: &mut [u64],
     over: &mut [u64],
@@ -91,25 +86,23 @@ fn turn_on(
     t: u64,
     look: bool,
 )
-    requires { Going policy choice view.now times.now left.old over.old stopped.old holder.old waits.old marks.old × Counted (timing_by policy choice view.now times.now) (board_of left.old over.old stopped.old holder.old waits.old) (done_in marks.old) plain.old × (c ≤ 3) }
-    ensures { Strided policy choice view.now times.now (turn_or look (timing_by policy choice view.now times.now) c (run_in left.old over.old stopped.old holder.old waits.old marks.old)) left.new over.new stopped.new holder.new waits.new marks.new plain.new }
+    requires { GoingOf plan.now times.now left.old over.old stopped.old holder.old waits.old marks.old × Counted (timing plan.now times.now) (board_of left.old over.old stopped.old holder.old waits.old) (done_in marks.old) plain.old × (c ≤ 3) }
+    ensures { StridedOf plan.now times.now (turn_or look (timing plan.now times.now) c (run_in left.old over.old stopped.old holder.old waits.old marks.old)) left.new over.new stopped.new holder.new waits.new marks.new plain.new }
 {
     let whole = taken(
-        policy, choice, view, times, left, over, stopped, holder, waits, marks, plain, c, t, look,
+        plan, times, left, over, stopped, holder, waits, marks, plain, c, t, look,
     );
     if whole {
         return;
     }
     clock_spends::put_plain(
-        policy, choice, view, times, left, over, stopped, holder, waits, marks, plain, c,
+        plan, times, left, over, stopped, holder, waits, marks, plain, c,
     );
 }
 
 // The turns of cores 0 to 3 at tick t, or a look at them.
 pub fn turns_on(
-    policy: Policy,
-    choice: OverrunChoice,
-    view: &[u64],
+    plan: &PlanView,
     times: &[u64],
     left: &mut [u64],
     over: &mut [u64],
@@ -121,15 +114,12 @@ pub fn turns_on(
     t: u64,
     look: bool,
 )
-    requires { Going policy choice view.now times.now left.old over.old stopped.old holder.old waits.old marks.old × Counted (timing_by policy choice view.now times.now) (board_of left.old over.old stopped.old holder.old waits.old) (done_in marks.old) plain.old }
-    ensures { Strided policy choice view.now times.now (turns_or look (timing_by policy choice view.now times.now) clock.cores (run_in left.old over.old stopped.old holder.old waits.old marks.old)) left.new over.new stopped.new holder.new waits.new marks.new plain.new }
+    requires { GoingOf plan.now times.now left.old over.old stopped.old holder.old waits.old marks.old × Counted (timing plan.now times.now) (board_of left.old over.old stopped.old holder.old waits.old) (done_in marks.old) plain.old }
+    ensures { StridedOf plan.now times.now (turns_or look (timing plan.now times.now) clock.cores (run_in left.old over.old stopped.old holder.old waits.old marks.old)) left.new over.new stopped.new holder.new waits.new marks.new plain.new }
 {
-    let mut c: u64 = 0;
-    while c < 4 {
+    for c in 0u64..4 {
         turn_on(
-            policy, choice, view, times, left, over, stopped, holder, waits, marks, plain, c, t,
-            look,
+            plan, times, left, over, stopped, holder, waits, marks, plain, c, t, look,
         );
-        c += 1;
     }
 }

@@ -45,10 +45,8 @@ fn core_set(times: &[u64], c: u64) -> u64
     ensures { CoreSet times.now c result }
 {
     let mut s = 0;
-    let mut v = 1;
-    while v <= 16 {
+    for v in 1..=16 {
         s = clock_puts::put(s, v, board_seats::figure(times, v) == c);
-        v += 1;
     }
     s
 }
@@ -69,10 +67,6 @@ pub fn clear_marks(times: &[u64], marks: &mut [u64])
     requires { length marks.old ≡ marks_length }
     ensures { Cleared times.now marks.new }
 {
-    let mut i = 0;
-    while i < 424 {
-        marks[i] = 0;
-        i += 1;
-    }
+    marks.fill(0);
     put_cores(times, marks);
 }

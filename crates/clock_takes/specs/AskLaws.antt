@@ -1,5 +1,5 @@
 -- What comes of an ask that is due: it is not refused, and what holds between the parts of a tick holds after it.
-use Rattle.std.specs.Prelude.{ℕ, ◌+◌, ◌≡◌, List, Bool, true, false}
+use Rattle.std.specs.Prelude.{ℕ, ◌+◌, ◌≡◌, List, Bool, true, false, Ok, Err}
 use Rattle.std.proofs.Math.Path.{refl, subst}
 use Rattle.std.proofs.Common.{sym, ap, ◌∙◌, arith}
 use Rattle.std.proofs.lemmas.Bool.{false≢true}
@@ -7,8 +7,7 @@ use Rattle.std.specs.Prelude.{if◌then◌else◌}
 use Rattle.laws.specs.BoolLaws.{clash}
 use Rattle.plan.specs.declared.Policy.{Policy}
 use Rattle.plan.specs.declared.OverrunChoice.{OverrunChoice}
-use Rattle.plan.specs.declared.Fault.{Fault}
-use Rattle.plan.specs.declared.Fault.TheVariants.{Clear, Bad}
+use Rattle.plan.specs.Refusals.{Fault}
 use Rattle.board_seats.specs.Seats.{seat, is_global}
 use Rattle.board_rules.specs.Facts.{Facts}
 use Rattle.board_rules.specs.View.{facts_in}
@@ -60,18 +59,18 @@ grant_answer F b v n m = at (ask_fault F b v n m) (may_have F b v n m) (complete
   where
     at : (r : Fault) (y : Bool) (o : Outcome) → o.answer ≡ Granted → (u : Outcome) → u.answer ≡ Waits → is_refusal (answered b r (if y then o else u)).answer ≡ false → is_wait (answered b r (if y then o else u)).answer ≡ false →
         (answered b r (if y then o else u)).answer ≡ Granted
-    at (Bad r) y o e u f g h = absurd (false≢true (sym g))
-    at Clear true o e u f g h = e
-    at Clear false o e u f g h = absurd (clash (ap is_wait f) h)
+    at (Err r) y o e u f g h = absurd (false≢true (sym g))
+    at (Ok tt) true o e u f g h = e
+    at (Ok tt) false o e u f g h = absurd (clash (ap is_wait f) h)
 
 -- an ask that is not refused has no fault
-accepted_clear : (F : Facts) (b : Board) (v n m : ℕ) → is_refusal (step F b (Ask v n m)).answer ≡ false → ask_fault F b v n m ≡ Clear
+accepted_clear : (F : Facts) (b : Board) (v n m : ℕ) → is_refusal (step F b (Ask v n m)).answer ≡ false → ask_fault F b v n m ≡ Ok tt
 unfolding step
 accepted_clear F b v n m = at (ask_fault F b v n m)
   where
-    at : (r : Fault) → is_refusal (answered b r (asked F b v n m)).answer ≡ false → r ≡ Clear
-    at Clear e = refl
-    at (Bad r) e = absurd (false≢true (sym e))
+    at : (r : Fault) → is_refusal (answered b r (asked F b v n m)).answer ≡ false → r ≡ Ok tt
+    at (Ok tt) e = refl
+    at (Err r) e = absurd (false≢true (sym e))
 
 -- WHAT IS KEPT leaves the ticks done
 
@@ -111,7 +110,7 @@ module _ {p : Policy} {c : OverrunChoice} {t x ls os : List ℕ} {ss : List Bool
       at false w = taken_as {y = To v n} (asks_taken g.paced a.core (done_in k) {k = 1} g.running (has_asked v n m a.is_picked a.chosen a.is_due_law a.some w))
 
   -- it has no fault
-  is_clear_law : ask_fault (timing_by p c t x).facts (board_of ls os ss hs ws) v n m ≡ Clear
+  is_clear_law : ask_fault (timing_by p c t x).facts (board_of ls os ss hs ws) v n m ≡ Ok tt
   is_clear_law = accepted_clear (timing_by p c t x).facts (board_of ls os ss hs ws) v n m is_taken.accepted
 
   -- what is kept says whether the task may have m

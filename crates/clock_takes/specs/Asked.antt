@@ -1,9 +1,8 @@
 -- What the functions here say of what they do: t is the view of the plan and x its times, ls, os, ss, hs, ws the board's arrays, k what is kept beside them,
 -- and o a buffer that is written to behind its first `at` bytes; hs', ws', k' and o' are these lists afterwards.
-use Rattle.std.specs.Prelude.{ℕ, ◌<◌, ◌≤◌, ◌≡◌, List, Bool, true, false}
+use Rattle.std.specs.Prelude.{ℕ, ◌<◌, ◌≤◌, ◌≡◌, List, Bool, true, false, Ok}
 use Rattle.plan.specs.declared.Policy.{Policy}
 use Rattle.plan.specs.declared.OverrunChoice.{OverrunChoice}
-use Rattle.plan.specs.declared.Fault.TheVariants.{Clear}
 use Rattle.board_seats.specs.Seats.{is_global}
 use Rattle.board_rules.specs.View.{facts_in}
 use Rattle.board_rules.specs.declared.Board.{Board}
@@ -61,7 +60,7 @@ pub record MayAsk (p : Policy) (c : OverrunChoice) (t ls os : List ℕ) (ss : Li
   pub sized : Sized k
   pub v_in : InV v
   pub n_in : InN n
-  pub no_fault : ask_fault (facts_in p c t) (board_of ls os ss hs ws) v n m ≡ Clear
+  pub no_fault : ask_fault (facts_in p c t) (board_of ls os ss hs ws) v n m ≡ Ok tt
   pub may : may_by t hs k v n m ≡ may_have (facts_in p c t) (board_of ls os ss hs ws) v n m
 
 -- the ask is made, told at tick i, and kept

@@ -3,7 +3,7 @@
 
 ghost use Rattle.std.specs.Prelude.{◌≡◌, ◌<◌, ◌≤◌};
 ghost use Rattle.board_seats.specs.Seats.{is_global};
-ghost use Rattle.board_rules.specs.View.{facts_in};
+ghost use Rattle.board_rules.specs.PlanViews.{facts};
 ghost use Rattle.board_rules.specs.Board.{step};
 ghost use Rattle.clock_rules.specs.Clock.{is_wait};
 ghost use Rattle.clock_rules.specs.Trace.{event_line};
@@ -11,8 +11,7 @@ ghost use Rattle.clock_marks.specs.Marks.{board_of, Sized};
 ghost use Rattle.clock_lines.specs.Told.{RoomAt};
 ghost use Rattle.clock_takes.specs.Asked.{Took, Kept, MayAsk, AskKept};
 
-use board_rules::{Board, BoardAnswer, Event};
-use plan::{OverrunChoice, Policy};
+use board_rules::{Board, BoardAnswer, Event, PlanView};
 
 // Whether who asked waits; and where the text goes on.
 #[derive(Clone, Copy)]
@@ -63,9 +62,7 @@ fn keep(view: &[u64], marks: &mut [u64], v: u64, n: u64, m: u64, waits: bool)
 // Task (v, n) asks for m: the ask is made, told and kept.
 pub fn ask(
     on: bool,
-    policy: Policy,
-    choice: OverrunChoice,
-    view: &[u64],
+    plan: &PlanView,
     left: &[u64],
     over: &[u64],
     stopped: &[bool],
@@ -79,17 +76,15 @@ pub fn ask(
     out: &mut [u8],
     at: usize,
 ) -> Answered
-    requires may_ask { MayAsk policy choice view.now left.now over.now stopped.now holder.old waits.old marks.old v n m }
-    requires room_at { RoomAt on (event_line t (Event.Ask v n m) (step (facts_in policy choice view.now) (board_of left.now over.now stopped.now holder.old waits.old) (Event.Ask v n m)).answer) out.old at }
-    ensures { AskKept policy choice view.now left.now over.now stopped.now on t v n m holder.old waits.old marks.old out.old at holder.new waits.new marks.new out.new result.waits result.at }
+    requires may_ask { MayAsk plan.now.policy plan.now.overrun plan.now.view.now left.now over.now stopped.now holder.old waits.old marks.old v n m }
+    requires room_at { RoomAt on (event_line t (Event.Ask v n m) (step (facts plan.now) (board_of left.now over.now stopped.now holder.old waits.old) (Event.Ask v n m)).answer) out.old at }
+    ensures { AskKept plan.now.policy plan.now.overrun plan.now.view.now left.now over.now stopped.now on t v n m holder.old waits.old marks.old out.old at holder.new waits.new marks.new out.new result.waits result.at }
 {
-    let may = clock_passes::may_have(view, holder, marks, v, n, m);
-    let a = Board::ask_sure(
-        policy, choice, view, left, over, stopped, holder, waits, v, n, m, may,
-    );
+    let may = clock_passes::may_have(plan.view, holder, marks, v, n, m);
+    let a = Board::ask_sure(plan, left, over, stopped, holder, waits, v, n, m, may);
     let w = clock_lines::tell(on, out, at, t, Event::Ask { v, n, m }, a);
     let still = is_wait(a);
-    keep(view, marks, v, n, m, still);
+    keep(plan.view, marks, v, n, m, still);
     Answered {
         waits: still,
         at: w,

@@ -6,10 +6,10 @@ ghost use Rattle.clock_rules.specs.Trace.{tick_text};
 ghost use Rattle.clock_marks.specs.Marks.{run_in};
 ghost use Rattle.clock_lines.specs.Told.{RoomAt};
 ghost use Rattle.clock_nexts.specs.Nexts.{Nexts};
-ghost use Rattle.clock_going.specs.Going.{timing_by, Going};
+ghost use Rattle.clock_going.specs.Lent.{GoingOf, timing};
 ghost use Rattle.clock_ticks.specs.Ticks.{Ticking};
 
-use plan::{OverrunChoice, Policy};
+use board_rules::PlanView;
 
 // What a tick leaves: where its text ends, and the task whose job is missed, 0 and 0 for none.
 #[derive(Clone, Copy)]
@@ -22,9 +22,7 @@ pub struct Ticked {
 // Tick t: its tops and releases, then the turns of its cores. Its text stands at the start of the buffer where `on`.
 pub fn tick(
     on: bool,
-    policy: Policy,
-    choice: OverrunChoice,
-    view: &[u64],
+    plan: &PlanView,
     times: &[u64],
     left: &mut [u64],
     over: &mut [u64],
@@ -36,13 +34,12 @@ pub fn tick(
     t: u64,
     out: &mut [u8],
 ) -> Ticked
-    requires going { Going policy choice view.now times.now left.old over.old stopped.old holder.old waits.old marks.old × Nexts times.now nexts.old t × (t ≤ 1000000) }
-    requires room_at { RoomAt on (tick_text (timing_by policy choice view.now times.now) t (run_in left.old over.old stopped.old holder.old waits.old marks.old)) out.old 0 }
-    ensures { Ticking policy choice view.now times.now on t (run_in left.old over.old stopped.old holder.old waits.old marks.old) out.old left.new over.new stopped.new holder.new waits.new marks.new nexts.new out.new result.at result.v result.n }
+    requires going { GoingOf plan.now times.now left.old over.old stopped.old holder.old waits.old marks.old × Nexts times.now nexts.old t × (t ≤ 1000000) }
+    requires room_at { RoomAt on (tick_text (timing plan.now times.now) t (run_in left.old over.old stopped.old holder.old waits.old marks.old)) out.old 0 }
+    ensures { Ticking plan.now.policy plan.now.overrun plan.now.view.now times.now on t (run_in left.old over.old stopped.old holder.old waits.old marks.old) out.old left.new over.new stopped.new holder.new waits.new marks.new nexts.new out.new result.at result.v result.n }
 {
     let o = clock_opens::open(
-        on, policy, choice, view, times, left, over, stopped, holder, waits, marks, nexts, t, out,
-        0,
+        on, plan, times, left, over, stopped, holder, waits, marks, nexts, t, out, 0,
     );
     let w = o.at;
     let v = o.v;
@@ -51,7 +48,7 @@ pub fn tick(
         return Ticked { at: w, v, n };
     }
     let e = clock_cores::turns(
-        on, policy, choice, view, times, left, over, stopped, holder, waits, marks, t, out, w,
+        on, plan, times, left, over, stopped, holder, waits, marks, t, out, w,
     );
     Ticked { at: e, v: 0, n: 0 }
 }

@@ -1,12 +1,11 @@
 -- Of two local mutexes of a VCPU that two tasks hold, one has its ceiling below the other's holder: every event keeps this.
-use Rattle.std.specs.Prelude.{ℕ, ◌≤◌, ◌<◌, ◌≡◌, refl, Bool, true, false, List, [], ◌∷◌, ◌⊎◌}
+use Rattle.std.specs.Prelude.{ℕ, ◌≤◌, ◌<◌, ◌≡◌, refl, Bool, true, false, List, [], ◌∷◌, ◌⊎◌, Ok, Err}
 use Rattle.std.proofs.Common.{sym, ap, subst, ◌∙◌, inl, inr, arith}
 use Rattle.std.proofs.Math.Logic.{⊎_elim}
 use Rattle.std.proofs.Math.Decide.{dec_le}
 use Rattle.std.specs.Prelude.{if◌then◌else◌}
 use Rattle.laws.specs.BoolLaws.{clash, bool_cases, same_or_not}
-use Rattle.plan.specs.declared.Fault.{Fault}
-use Rattle.plan.specs.declared.Fault.TheVariants.{Clear, Bad}
+use Rattle.plan.specs.Refusals.{Fault}
 use Rattle.board_rules.specs.Facts.{Facts}
 use Rattle.board_rules.specs.declared.Board.{Board}
 use Rattle.board_rules.specs.declared.Event.{Event}
@@ -141,8 +140,8 @@ step_ceiled {F} {b} f s g h (Ask v n m) = at_fault (ask_fault F b v n m) refl
     at_test c false e = rw e h
 
     at_fault : (x : Fault) → ask_fault F b v n m ≡ x → Ceiled F (answered b x (asked F b v n m)).board
-    at_fault Clear e = at_test (ask_clear F b v n m e) (may_have F b v n m) refl
-    at_fault (Bad r) e = h
+    at_fault (Ok tt) e = at_test (ask_clear F b v n m e) (may_have F b v n m) refl
+    at_fault (Err r) e = h
 step_ceiled {F} {b} f s g h (Free v n m) = at_fault (free_fault F b v n m) refl
   where
     at_kind : FreeClear F b v n m → (t : Bool) → F.global m ≡ t → Ceiled F (if t then freed_global F b m else freed_local F b v m).board
@@ -150,23 +149,23 @@ step_ceiled {F} {b} f s g h (Free v n m) = at_fault (free_fault F b v n m) refl
     at_kind c false e = local_ceiled f s g h v m (task_v f v n c.task) (f.mutex_in m c.mutex) (local_next F (with_holder b m 0) v)
 
     at_fault : (x : Fault) → free_fault F b v n m ≡ x → Ceiled F (answered b x (freed F b v m)).board
-    at_fault Clear e = at_kind (free_clear F b v n m e) (F.global m) refl
-    at_fault (Bad r) e = h
+    at_fault (Ok tt) e = at_kind (free_clear F b v n m e) (F.global m) refl
+    at_fault (Err r) e = h
 step_ceiled {F} {b} f s g h (Use v t) = at_fault (use_fault F b v t)
   where
     at_fault : (x : Fault) → Ceiled F (answered b x (used F b v t)).board
-    at_fault Clear = h
-    at_fault (Bad r) = h
+    at_fault (Ok tt) = h
+    at_fault (Err r) = h
 step_ceiled {F} {b} f s g h (Top v) = at_fault (top_fault F v)
   where
     at_fault : (x : Fault) → Ceiled F (answered b x (topped F b v)).board
-    at_fault Clear = h
-    at_fault (Bad r) = h
+    at_fault (Ok tt) = h
+    at_fault (Err r) = h
 step_ceiled {F} {b} f s g h (Show v n) = at_fault (show_fault F v n)
   where
     at_fault : (x : Fault) → Ceiled F (answered b x (shown F b v n)).board
-    at_fault Clear = h
-    at_fault (Bad r) = h
+    at_fault (Ok tt) = h
+    at_fault (Err r) = h
 
 -- RUNS
 

@@ -2,7 +2,7 @@
 #![tactic(auto)]
 
 ghost use Rattle.std.specs.Prelude.{◌≡◌, ◌<◌, ◌≤◌, length};
-ghost use Rattle.board_rules.specs.View.{facts_in};
+ghost use Rattle.board_rules.specs.PlanViews.{facts};
 ghost use Rattle.board_rules.specs.Settle.{Marked};
 ghost use Rattle.board_rules.specs.Board.{step};
 ghost use Rattle.clock_rules.specs.Clock.{tops};
@@ -10,18 +10,15 @@ ghost use Rattle.clock_rules.specs.Trace.{event_line, lines_at};
 ghost use Rattle.clock_marks.specs.Marks.{board_of, Sized};
 ghost use Rattle.clock_lines.specs.Told.{RoomAt};
 ghost use Rattle.clock_nexts.specs.Nexts.{Nexts};
-ghost use Rattle.clock_going.specs.Going.{timing_by, Going};
+ghost use Rattle.clock_going.specs.Lent.{GoingOf, timing};
 ghost use Rattle.clock_tops.specs.Topping.{tops_to, OneTop, Topped, DueIn, TopsMade};
 
-use board_rules::{Board, Event};
-use plan::{OverrunChoice, Policy};
+use board_rules::{Board, Event, PlanView};
 
 // `top v` is made and told.
 fn top(
     on: bool,
-    policy: Policy,
-    choice: OverrunChoice,
-    view: &[u64],
+    plan: &PlanView,
     left: &mut [u64],
     over: &mut [u64],
     stopped: &mut [bool],
@@ -33,20 +30,18 @@ fn top(
     out: &mut [u8],
     at: usize,
 ) -> usize
-    requires { (length left.old ≡ 16) × (length over.old ≡ 16) × (length stopped.old ≡ 16) × Marked (facts_in policy choice view.now) (board_of left.old over.old stopped.old holder.now waits.now) × Sized marks.old × (0 < v) × (v ≤ 16) × RoomAt on (event_line t (Event.Top v) (step (facts_in policy choice view.now) (board_of left.old over.old stopped.old holder.now waits.now) (Event.Top v)).answer) out.old at }
-    ensures { OneTop (facts_in policy choice view.now) choice on t v (board_of left.old over.old stopped.old holder.now waits.now) marks.old out.old at (board_of left.new over.new stopped.new holder.now waits.now) marks.new out.new result }
+    requires { (length left.old ≡ 16) × (length over.old ≡ 16) × (length stopped.old ≡ 16) × Marked (facts plan.now) (board_of left.old over.old stopped.old holder.now waits.now) × Sized marks.old × (0 < v) × (v ≤ 16) × RoomAt on (event_line t (Event.Top v) (step (facts plan.now) (board_of left.old over.old stopped.old holder.now waits.now) (Event.Top v)).answer) out.old at }
+    ensures { OneTop (facts plan.now) plan.now.overrun on t v (board_of left.old over.old stopped.old holder.now waits.now) marks.old out.old at (board_of left.new over.new stopped.new holder.now waits.now) marks.new out.new result }
 {
-    let a = Board::top_in(policy, choice, view, left, over, stopped, holder, v);
-    clock_supplies::put_supply(choice, left, over, stopped, marks, v);
+    let a = Board::top_in(plan, left, over, stopped, holder, v);
+    clock_supplies::put_supply(plan.overrun, left, over, stopped, marks, v);
     clock_lines::tell(on, out, at, t, Event::Top { v }, a)
 }
 
 // The `top` events of tick t.
 fn tops(
     on: bool,
-    policy: Policy,
-    choice: OverrunChoice,
-    view: &[u64],
+    plan: &PlanView,
     times: &[u64],
     left: &mut [u64],
     over: &mut [u64],
@@ -60,8 +55,8 @@ fn tops(
     out: &mut [u8],
     at: usize,
 ) -> usize
-    requires { Going policy choice view.now times.now left.old over.old stopped.old holder.now waits.now marks.old × (length nexts.now ≡ 162) × RoomAt on (lines_at (facts_in policy choice view.now) t (board_of left.old over.old stopped.old holder.now waits.now) (tops_to nexts.now t 16)) out.old at × DueIn nexts.now t all }
-    ensures { Topped (facts_in policy choice view.now) times.now on t (board_of left.old over.old stopped.old holder.now waits.now) marks.old nexts.now out.old at 16 (board_of left.new over.new stopped.new holder.now waits.now) marks.new out.new result }
+    requires { GoingOf plan.now times.now left.old over.old stopped.old holder.now waits.now marks.old × (length nexts.now ≡ 162) × RoomAt on (lines_at (facts plan.now) t (board_of left.old over.old stopped.old holder.now waits.now) (tops_to nexts.now t 16)) out.old at × DueIn nexts.now t all }
+    ensures { Topped (facts plan.now) times.now on t (board_of left.old over.old stopped.old holder.now waits.now) marks.old nexts.now out.old at 16 (board_of left.new over.new stopped.new holder.now waits.now) marks.new out.new result }
 {
     let mut w = at;
     let mut rest = all;
@@ -69,7 +64,7 @@ fn tops(
         let v = clock_sets::lowest_in(rest);
         if clock_misses::is_due(nexts, v - 1, t) {
             w = top(
-                on, policy, choice, view, left, over, stopped, holder, waits, marks, v, t, out, w,
+                on, plan, left, over, stopped, holder, waits, marks, v, t, out, w,
             );
         }
         rest = clock_sets::without(rest, v);
@@ -80,9 +75,7 @@ fn tops(
 // Where tops are due at tick t, they are made, and when they recur next is written.
 pub fn tops_due(
     on: bool,
-    policy: Policy,
-    choice: OverrunChoice,
-    view: &[u64],
+    plan: &PlanView,
     times: &[u64],
     left: &mut [u64],
     over: &mut [u64],
@@ -95,16 +88,15 @@ pub fn tops_due(
     out: &mut [u8],
     at: usize,
 ) -> usize
-    requires { Going policy choice view.now times.now left.old over.old stopped.old holder.now waits.now marks.old × Nexts times.now nexts.old t × (t ≤ 1000000) × RoomAt on (lines_at (facts_in policy choice view.now) t (board_of left.old over.old stopped.old holder.now waits.now) (tops (timing_by policy choice view.now times.now) t)) out.old at }
-    ensures { TopsMade (facts_in policy choice view.now) times.now on t (board_of left.old over.old stopped.old holder.now waits.now) marks.old nexts.old out.old at (board_of left.new over.new stopped.new holder.now waits.now) marks.new nexts.new out.new result }
+    requires { GoingOf plan.now times.now left.old over.old stopped.old holder.now waits.now marks.old × Nexts times.now nexts.old t × (t ≤ 1000000) × RoomAt on (lines_at (facts plan.now) t (board_of left.old over.old stopped.old holder.now waits.now) (tops (timing plan.now times.now) t)) out.old at }
+    ensures { TopsMade (facts plan.now) times.now on t (board_of left.old over.old stopped.old holder.now waits.now) marks.old nexts.old out.old at (board_of left.new over.new stopped.new holder.now waits.now) marks.new nexts.new out.new result }
 {
     if nexts[160] != t {
         return at;
     }
     let all = clock_nexts::recurring(times);
     let w = tops(
-        on, policy, choice, view, times, left, over, stopped, holder, waits, marks, nexts, all, t,
-        out, at,
+        on, plan, times, left, over, stopped, holder, waits, marks, nexts, all, t, out, at,
     );
     clock_renews::renew_tops(times, nexts, all, t);
     w

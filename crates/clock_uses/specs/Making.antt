@@ -1,9 +1,8 @@
 -- Events made one after the other, and told one behind the other.
-use Rattle.std.specs.Prelude.{ℕ, ◌≡◌, refl, List, [], ◌∷◌, ◌++◌, Bool, false, length}
+use Rattle.std.specs.Prelude.{ℕ, ◌≡◌, refl, List, [], ◌∷◌, ◌++◌, Bool, false, length, Ok, Err}
 use Rattle.std.proofs.Math.Path.{ap, sym}
 use Rattle.std.proofs.Common.{subst, subst₂, ◌∙◌, append-nil, true≢false}
-use Rattle.plan.specs.declared.Fault.{Fault}
-use Rattle.plan.specs.declared.Fault.TheVariants.{Clear, Bad}
+use Rattle.plan.specs.Refusals.{Fault}
 use Rattle.board_rules.specs.Facts.{Facts}
 use Rattle.board_rules.specs.declared.Board.{Board}
 use Rattle.board_rules.specs.declared.Event.{Event}
@@ -19,9 +18,9 @@ use Rattle.clock_going.specs.Going.{Made}
 use Rattle.clock_going.specs.Lines.{lines_append}
 
 -- an event that is not refused has no fault
-pub no_fault : (b : Board) (o : Outcome) (x : Fault) → is_refusal (answered b x o).answer ≡ false → x ≡ Clear
-no_fault b o Clear h = refl
-no_fault b o (Bad r) h = absurd (true≢false h)
+pub no_fault : (b : Board) (o : Outcome) (x : Fault) → is_refusal (answered b x o).answer ≡ false → x ≡ Ok tt
+no_fault b o (Ok tt) h = refl
+no_fault b o (Err r) h = absurd (true≢false h)
 
 -- where none of two lists of events is refused, none of the second is
 pub accepted_rest : (F : Facts) (b : Board) (xs ys : List Event) → Accepted F b (xs ++ ys) → Accepted F (board_after F b xs) ys

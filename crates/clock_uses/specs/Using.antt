@@ -1,5 +1,5 @@
 -- A tick of a VCPU: the board after `use v 1`, and what is kept beside it.
-use Rattle.std.specs.Prelude.{ℕ, ◌-◌, ◌<◌, ◌≡◌, refl, List, [], ◌∷◌, Bool, true, ltb}
+use Rattle.std.specs.Prelude.{ℕ, ◌-◌, ◌<◌, ◌≡◌, refl, List, [], ◌∷◌, Bool, true, ltb, Ok, Err}
 use Rattle.std.proofs.Math.Path.{ap, subst}
 use Rattle.std.proofs.Common.{sym, ◌∙◌, ltb-true, ltb-false}
 use Rattle.std.proofs.Math.Bool.{false}
@@ -10,8 +10,7 @@ use Rattle.laws.specs.BoolLaws.{bool_cases, same_or_not}
 use Rattle.plan.specs.declared.Policy.{Policy}
 use Rattle.plan.specs.declared.OverrunChoice.{OverrunChoice}
 use Rattle.plan.specs.declared.Refusal.{Refusal}
-use Rattle.plan.specs.declared.Fault.{Fault}
-use Rattle.plan.specs.declared.Fault.TheVariants.{Clear, Bad}
+use Rattle.plan.specs.Refusals.{Fault}
 use Rattle.board_seats.specs.Seats.{has_vcpu}
 use Rattle.board_walks.specs.Walks as walks
 use Rattle.board_reserves.specs.Supplies.{use_fault_at}
@@ -76,14 +75,14 @@ use_done {o} {ls} {os} {ss} {k} {k'} {v} h = ⊎_elim (λ z. put_supply_done k k
 -- WHAT IS KEPT
 module _ {T : Timing} {x : List ℕ} {b : Board} {k : List ℕ} (m : Mirrors T x b k) (f : Fair T.facts) (s : Shaped b) (g : good T.facts b ≡ true) where
   -- a tick that is not refused takes one of the budget
-  left_then : (v : ℕ) → use_fault T.facts b v 1 ≡ Clear → left_of (step T.facts b (Use v 1)).board v ≡ left_of b v - 1
+  left_then : (v : ℕ) → use_fault T.facts b v 1 ≡ Ok tt → left_of (step T.facts b (Use v 1)).board v ≡ left_of b v - 1
   unfolding used settled
   left_then v e =
       let F = T.facts in
       ap (λ (o : Outcome). left_of o.board v) (use_is F b v 1 e) ∙ left_new s v (left_of b v - 1) (over_of b v - (1 - left_of b v)) (f.vcpu_in v (use_clear F b v 1 e).vcpu)
 
   -- one that is refused changes nothing
-  still_then : (v : ℕ) {r : Refusal} → use_fault T.facts b v 1 ≡ Bad r → (step T.facts b (Use v 1)).board ≡ b
+  still_then : (v : ℕ) {r : Refusal} → use_fault T.facts b v 1 ≡ Err r → (step T.facts b (Use v 1)).board ≡ b
   unfolding step
   still_then v e = ap (λ y. (answered b y (used T.facts b v 1)).board) e
 
@@ -92,18 +91,18 @@ module _ {T : Timing} {x : List ℕ} {b : Board} {k : List ℕ} (m : Mirrors T x
   stands v l z = at_fault (use_fault T.facts b v 1) refl
     where
       at_fault : (y : Fault) → use_fault T.facts b v 1 ≡ y → ⊥
-      at_fault Clear e = let q = left_then v e in omega arith
-      at_fault (Bad r) e = let q = ap (λ y. left_of y v) (still_then v e) in omega arith
+      at_fault (Ok tt) e = let q = left_then v e in omega arith
+      at_fault (Err r) e = let q = ap (λ y. left_of y v) (still_then v e) in omega arith
 
   -- a VCPU with budget left had more than one tick of it, or the event was refused
   stays : (v : ℕ) → (left_of (step T.facts b (Use v 1)).board v ≡ 0 → ⊥) → Mirrors T x (step T.facts b (Use v 1)).board k
   stays v nz = at_fault (use_fault T.facts b v 1) refl
     where
       at_fault : (y : Fault) → use_fault T.facts b v 1 ≡ y → Mirrors T x (step T.facts b (Use v 1)).board k
-      at_fault Clear e =
+      at_fault (Ok tt) e =
           let q = left_then v e in
           tick_mirrors m f s g v (⊎_elim (λ z. ltb-true 1 (left_of b v) z) (λ z. let l = ltb-false 1 (left_of b v) z in absurd (nz (q ∙ omega arith))) (bool_cases (ltb 1 (left_of b v))))
-      at_fault (Bad r) e = subst (λ y. Mirrors T x y k) (sym (still_then v e)) m
+      at_fault (Err r) e = subst (λ y. Mirrors T x y k) (sym (still_then v e)) m
 
   -- the sets are right either way
   use_kept : (v : ℕ) {k' : List ℕ} → AfterUseOn T.facts.choice (step T.facts b (Use v 1)).board k k' v → Mirrors T x (step T.facts b (Use v 1)).board k'
@@ -135,7 +134,7 @@ module _ {p : Policy} {o : OverrunChoice} {t x ls os : List ℕ} {ss : List Bool
           let z = g.paced.fair.no_budget v e in omega arith
 
   -- a tick that is not refused has no fault
-  pub going_uses : (v : ℕ) → Uses (facts_in p o t) (board_of ls os ss hs ws) v → use_fault_at o t ls os ss hs v 1 ≡ Clear
+  pub going_uses : (v : ℕ) → Uses (facts_in p o t) (board_of ls os ss hs ws) v → use_fault_at o t ls os ss hs v 1 ≡ Ok tt
   unfolding step use_fault facts_in supply holds_global
   going_uses v h = let b = board_of ls os ss hs ws in no_fault b (used (facts_in p o t) b v 1) (use_fault (facts_in p o t) b v 1) h
 

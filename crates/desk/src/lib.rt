@@ -10,34 +10,12 @@ ghost use Rattle.board_events.specs.Events.{board_text};
 ghost use Rattle.text_letters.specs.Wrote.{Wrote};
 ghost use Rattle.listing_lines.specs.Into.{text_answer, text_after};
 ghost use Rattle.records_read.specs.Lies.{Sure};
-ghost use Rattle.desk.specs.Read.{record_in, complaint_in};
 ghost use Rattle.desk.specs.Told.{told_in, told_or, text_for};
 ghost use Rattle.desk_rooms.specs.Whole.{verdict_bytes, board_bytes, Counted};
 
-use listing_lines::TextAnswer;
-use plan::{Complaint, no_room};
+use figures_cells::PlanTables;
+use plan::{Complaint, Refusal, no_room};
 use plan_tables::PlanRecord;
-use read_answer::PlanAnswer;
-
-// The record of an accepted plan; of a refused one a record without rows.
-fn record_in(a: PlanAnswer) -> PlanRecord
-    ensures { result ≡ record_in a }
-{
-    match a {
-        PlanAnswer::Accepted(r) => r,
-        PlanAnswer::Refused(_) => read_tally::record_of(read_tally::blank()),
-    }
-}
-
-// Why a plan is refused; of an accepted one no reason that counts.
-fn complaint_in(a: PlanAnswer) -> Complaint
-    ensures { result ≡ complaint_in a }
-{
-    match a {
-        PlanAnswer::Accepted(_) => no_room(),
-        PlanAnswer::Refused(c) => c,
-    }
-}
 
 // Writes, for the plan in tables that passed the test for 9, the answers to the events of src where `on`, else its listing.
 fn text_into(
@@ -49,7 +27,7 @@ fn text_into(
     ts: &[u64],
     src: &[u8],
     out: &mut [u8],
-) -> TextAnswer
+) -> Result<usize, Refusal>
     requires { (is_given r (lent vt.now mt.now ot.now ts.now) ≡ true) × (length src.now ≤ 65536) }
     ensures value { result ≡ text_answer (told_in on r (lent vt.now mt.now ot.now ts.now) src.now) out.old }
     ensures out_after { out.new ≡ text_after (told_in on r (lent vt.now mt.now ot.now ts.now) src.now) out.old }
@@ -57,33 +35,38 @@ fn text_into(
     if on {
         return log_text::answers_into(r, vt, mt, ot, ts, src, out);
     }
-    listing_puts::listing_into(r, vt, mt, ts, out)
+    let t = PlanTables {
+        plan: r,
+        vcpus: vt,
+        mutexes: mt,
+        tasks: ts,
+    };
+    listing_puts::listing_into(&t, out)
 }
 
 // The same for an accepted plan; for a refused one its line.
 fn text_or(
     on: bool,
-    a: PlanAnswer,
+    a: Result<PlanRecord, Complaint>,
     vt: &[u64],
     mt: &[u64],
     ot: &[u64],
     ts: &[u64],
     src: &[u8],
     out: &mut [u8],
-) -> TextAnswer
+) -> Result<usize, Refusal>
     requires { Sure a (lent vt.now mt.now ot.now ts.now) × (length src.now ≤ 65536) }
     ensures value { result ≡ text_answer (told_or on a (lent vt.now mt.now ot.now ts.now) src.now) out.old }
     ensures out_after { out.new ≡ text_after (told_or on a (lent vt.now mt.now ot.now ts.now) src.now) out.old }
 {
-    if read_answer::is_accepted(a) {
-        let r = record_in(a);
-        return text_into(on, r, vt, mt, ot, ts, src, out);
+    match a {
+        Ok(r) => text_into(on, r, vt, mt, ot, ts, src, out),
+        Err(c) => desk_refusals::refusal_text(c, out),
     }
-    desk_refusals::refusal_text(complaint_in(a), out)
 }
 
 // Reads a plan, and writes the answers to the events of src where `on`, else its listing; or its refusal.
-fn text_of(on: bool, plan: &[u8], src: &[u8], out: &mut [u8]) -> TextAnswer
+fn text_of(on: bool, plan: &[u8], src: &[u8], out: &mut [u8]) -> Result<usize, Refusal>
     requires { length src.now ≤ 65536 }
     ensures value { result ≡ text_answer (text_for on (reading plan.now) src.now) out.old }
     ensures out_after { out.new ≡ text_after (text_for on (reading plan.now) src.now) out.old }
@@ -97,7 +80,7 @@ fn text_of(on: bool, plan: &[u8], src: &[u8], out: &mut [u8]) -> TextAnswer
 }
 
 // What `board` prints for any two inputs, into a lent buffer; with too little room 8, and the buffer as it was lent.
-pub fn board_text(plan: &[u8], src: &[u8], out: &mut [u8]) -> TextAnswer
+pub fn board_text(plan: &[u8], src: &[u8], out: &mut [u8]) -> Result<usize, Refusal>
     ensures value { result ≡ text_answer (board_text plan.now src.now) out.old }
     ensures out_after { out.new ≡ text_after (board_text plan.now src.now) out.old }
 {
@@ -111,7 +94,7 @@ pub fn board_text(plan: &[u8], src: &[u8], out: &mut [u8]) -> TextAnswer
 }
 
 // What `verdict` prints for any input, into a lent buffer; with too little room 8, and the buffer as it was lent.
-pub fn verdict_text(src: &[u8], out: &mut [u8]) -> TextAnswer
+pub fn verdict_text(src: &[u8], out: &mut [u8]) -> Result<usize, Refusal>
     ensures value { result ≡ text_answer (verdict_text src.now) out.old }
     ensures out_after { out.new ≡ text_after (verdict_text src.now) out.old }
 {

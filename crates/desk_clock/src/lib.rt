@@ -7,17 +7,24 @@ ghost use Rattle.records_read.specs.Lies.{Sure};
 ghost use Rattle.desk_runs.specs.Ran.{run_or, run_bytes};
 
 use clock_rules::RunAnswer;
-use plan::Refusal;
-use read_answer::PlanAnswer;
+use plan::{Complaint, Refusal};
+use plan_tables::PlanRecord;
 
 // The run to horizon h of an accepted plan in tables; for a refused one its number.
-fn run_or(a: PlanAnswer, vt: &[u64], mt: &[u64], ot: &[u64], ts: &[u64], h: u64) -> RunAnswer
+fn run_or(
+    a: Result<PlanRecord, Complaint>,
+    vt: &[u64],
+    mt: &[u64],
+    ot: &[u64],
+    ts: &[u64],
+    h: u64,
+) -> RunAnswer
     requires { Sure a (lent vt.now mt.now ot.now ts.now) }
     ensures { result ≡ run_or a (lent vt.now mt.now ot.now ts.now) h }
 {
     match a {
-        PlanAnswer::Accepted(r) => clock_tables::run_to(r, vt, mt, ot, ts, h),
-        PlanAnswer::Refused(c) => {
+        Ok(r) => clock_tables::run_to(r, vt, mt, ot, ts, h),
+        Err(c) => {
             let x = c.number;
             RunAnswer::NoRun(x)
         }

@@ -1,22 +1,22 @@
 -- A buffer of the programs' size has room for every text that they print.
-use Rattle.std.specs.Prelude.{ℕ, ◌+◌, ◌≤◌, ◌≡◌, refl, List, Bool, true, false, ◌||◌, ltb, length, drop}
+use Rattle.std.specs.Prelude.{ℕ, ◌+◌, ◌≤◌, ◌≡◌, refl, List, Bool, true, false, ◌||◌, ltb, length, drop, Result}
 use Rattle.std.proofs.Common.{sym, ap, ◌∙◌, arith, le-leb, ltb-false, length-append, length-take-le}
 use Rattle.plan.specs.Limits.{max_input}
 use Rattle.plan.specs.Refusals.{no_room}
 use Rattle.plan.specs.Reading.{Reading, Accepts, Refuses, reading}
 use Rattle.plan.proofs.Accepted.{read_text_law}
+use Rattle.plan.specs.declared.Refusal.{Refusal}
 use Rattle.plan_fields.specs.Few.{field_few}
 use Rattle.listing.specs.Listing.{refused_line, verdict_text}
 use Rattle.listing_order.specs.Bound.{refused_bound, refused_line_law, verdict_bound}
 use Rattle.board_events.specs.Events.{events_text, board_text}
 use Rattle.text_letters.specs.Wrote.{Wrote}
-use Rattle.listing_lines.specs.declared.TextAnswer.{TextAnswer}
 use Rattle.listing_lines.specs.Into.{text_answer, text_after, bytes_in}
 use Rattle.desk_rooms.specs.Boarded.{answers_for, plan_bound}
 use Rattle.desk_rooms.specs.Whole.{Counted, verdict_bytes, board_bytes}
 
 -- with room for the text, it is written
-pub whole_wrote : (t o : List ℕ) {a : TextAnswer} {p : List ℕ} {n : ℕ} → length t ≤ length o → n ≡ bytes_in a → (a ≡ text_answer t o) × (p ≡ text_after t o) → Wrote t o p n
+pub whole_wrote : (t o : List ℕ) {a : Result ℕ Refusal} {p : List ℕ} {n : ℕ} → length t ≤ length o → n ≡ bytes_in a → (a ≡ text_answer t o) × (p ≡ text_after t o) → Wrote t o p n
 unfolding text_answer text_after
 whole_wrote t o h e w =
     let k = le-leb (length t) (length o) h in

@@ -1,12 +1,12 @@
 -- How the run of a plan in bytes ends, on a clock: from its reading, and that code over the tables that the reading left answers so.
-use Rattle.std.specs.Prelude.{ℕ, List, ltb, length, if◌then◌else◌}
+use Rattle.std.specs.Prelude.{ℕ, List, ltb, length, if◌then◌else◌, Result, Ok, Err}
 use Rattle.plan.specs.Limits.{max_input}
 use Rattle.plan.specs.declared.Refusal.TheVariants.{Range, Room}
 use Rattle.plan.specs.Plan.{Plan}
 use Rattle.plan.specs.Reading.{Reading, Accepts, Refuses, reading}
+use Rattle.plan.specs.declared.Complaint.{Complaint}
 use Rattle.plan_tables.specs.Layout.{Tables}
-use Rattle.read_answer.specs.declared.PlanAnswer.{PlanAnswer}
-use Rattle.read_answer.specs.declared.PlanAnswer.TheVariants.{Accepted, Refused}
+use Rattle.plan_tables.specs.declared.PlanRecord.{PlanRecord}
 use Rattle.figures.specs.System.{system}
 use Rattle.clock_rules.specs.declared.RunAnswer.{RunAnswer}
 use Rattle.clock_rules.specs.declared.RunAnswer.TheVariants.{NoRun}
@@ -30,6 +30,6 @@ unfoldable pub run_into : List ℕ → ℕ → List ℕ → RunAnswer
 run_into s h ys = if ltb (length ys) 3 then NoRun Room else run_bytes s h
 
 -- of an answer and the tables that it left
-unfoldable pub run_or : PlanAnswer → Tables → ℕ → RunAnswer
-run_or (Accepted r) t h = run_for r t h
-run_or (Refused c) t h = NoRun c.number
+unfoldable pub run_or : Result PlanRecord Complaint → Tables → ℕ → RunAnswer
+run_or (Ok r) t h = run_for r t h
+run_or (Err c) t h = NoRun c.number

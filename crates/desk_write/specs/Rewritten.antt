@@ -1,5 +1,5 @@
 -- What `rewrite` prints: an accepted plan as it is written from the tables that its reading left, or the line of its refusal, as `verdict` prints it.
-use Rattle.std.specs.Prelude.{ℕ, ◌≤◌, ◌≡◌, refl, List, Bool, true, false, ltb, length}
+use Rattle.std.specs.Prelude.{ℕ, ◌≤◌, ◌≡◌, refl, List, Bool, true, false, ltb, length, Result, Ok, Err}
 use Rattle.std.proofs.Math.Path.{sym}
 use Rattle.std.proofs.Common.{ap, ◌∙◌, arith, le-ltb, ltb-false}
 use Rattle.std.specs.Prelude.{if◌then◌else◌}
@@ -10,13 +10,12 @@ use Rattle.plan.specs.Plan.{Plan}
 use Rattle.plan.specs.Text.{text}
 use Rattle.plan.specs.Reading.{Reading, Accepts, Refuses, reading}
 use Rattle.plan.proofs.Accepted.{read_text_law}
+use Rattle.plan.specs.declared.Refusal.{Refusal}
 use Rattle.plan_fields.specs.Few.{field_few}
 use Rattle.plan_tables.specs.declared.PlanRecord.{PlanRecord}
 use Rattle.plan_tables.specs.Layout.{Tables, lent}
 use Rattle.plan_tables.specs.Given.{plan_in}
 use Rattle.read_fill.specs.Fill.{vcpu_put, mutex_put, open_put, task_put}
-use Rattle.read_answer.specs.declared.PlanAnswer.{PlanAnswer}
-use Rattle.read_answer.specs.declared.PlanAnswer.TheVariants.{Accepted, Refused}
 use Rattle.read_answer.specs.Into.{plan_answer}
 use Rattle.read_answer.specs.Judged.{lines_left}
 use Rattle.read_answer.specs.Ample.{Ample}
@@ -24,7 +23,6 @@ use Rattle.write_asked.specs.Short.{plan_short}
 use Rattle.records_read.specs.Lies.{refused_reads, left_lies}
 use Rattle.listing.specs.Listing.{refused_line}
 use Rattle.listing_order.specs.Bound.{refused_bound, refused_line_law}
-use Rattle.listing_lines.specs.declared.TextAnswer.{TextAnswer}
 use Rattle.listing_lines.specs.Into.{text_answer, text_after}
 
 -- of a reading
@@ -37,9 +35,9 @@ unfoldable pub rewrite_text : List ℕ → List ℕ
 rewrite_text s = if ltb max_input (length s) then refused_line no_room else rewritten (reading s)
 
 -- of an answer and the tables that it left
-abbrev pub rewrite_or : PlanAnswer → Tables → List ℕ
-rewrite_or (Accepted r) t = text (plan_in r t)
-rewrite_or (Refused c) t = refused_line c
+abbrev pub rewrite_or : Result PlanRecord Complaint → Tables → List ℕ
+rewrite_or (Ok r) t = text (plan_in r t)
+rewrite_or (Err c) t = refused_line c
 
 -- no accepted plan is above 65,536 bytes
 pub accepted_small : (s : List ℕ) (p : Plan) → reading s ≡ Accepts p → length s ≤ max_input
@@ -69,33 +67,33 @@ rewrite_fits s {m} h = go (ltb max_input (length s)) refl
 -- AS CODE FINDS OUT
 
 -- written into a buffer
-abbrev Printed : List ℕ → List ℕ → TextAnswer → List ℕ → Type 0
+abbrev Printed : List ℕ → List ℕ → Result ℕ Refusal → List ℕ → Type 0
 Printed t o b p = (b ≡ text_answer t o) × (p ≡ text_after t o)
 
-as_printed : {t u : List ℕ} (o : List ℕ) {b : TextAnswer} {p : List ℕ} → u ≡ t → Printed t o b p → Printed u o b p
+as_printed : {t u : List ℕ} (o : List ℕ) {b : Result ℕ Refusal} {p : List ℕ} → u ≡ t → Printed t o b p → Printed u o b p
 as_printed o e w = rw e w
 
-module _ {a : PlanAnswer} (t : Tables) (o : List ℕ) {b : TextAnswer} {p : List ℕ} where
-  pub accepted_printed : {r : PlanRecord} → a ≡ Accepted r → Printed (text (plan_in r t)) o b p → Printed (rewrite_or a t) o b p
+module _ {a : Result PlanRecord Complaint} (t : Tables) (o : List ℕ) {b : Result ℕ Refusal} {p : List ℕ} where
+  pub accepted_printed : {r : PlanRecord} → a ≡ Ok r → Printed (text (plan_in r t)) o b p → Printed (rewrite_or a t) o b p
   accepted_printed e w = as_printed o (ap (λ z. rewrite_or z t) e) w
 
-  pub refused_printed : {c : Complaint} → a ≡ Refused c → Printed (refused_line c) o b p → Printed (rewrite_or a t) o b p
+  pub refused_printed : {c : Complaint} → a ≡ Err c → Printed (refused_line c) o b p → Printed (rewrite_or a t) o b p
   refused_printed e w = as_printed o (ap (λ z. rewrite_or z t) e) w
 
 -- of a reading into tables with room for every plan: what it answers, and the rows that its lines leave
-module _ (s : List ℕ) {vt mt ot ts : List ℕ} (l : Ample (lent vt mt ot ts)) {a : PlanAnswer} {vu mu ou tu : List ℕ}
+module _ (s : List ℕ) {vt mt ot ts : List ℕ} (l : Ample (lent vt mt ot ts)) {a : Result PlanRecord Complaint} {vu mu ou tu : List ℕ}
     (e : a ≡ plan_answer s (lent vt mt ot ts)) (v : vu ≡ lines_left vcpu_put s vt) (m : mu ≡ lines_left mutex_put s mt)
     (o : ou ≡ lines_left open_put s ot) (k : tu ≡ lines_left task_put s ts) where
   abbrev left : Tables
   left = lent vu mu ou tu
 
-  left_rewritten : (z : PlanAnswer) → a ≡ z → rewrite_or z left ≡ rewritten (reading s)
-  left_rewritten (Accepted r) z = let w = left_lies s l e v m o k r z in ap text w.1.is ∙ ap rewritten (sym w.1.reads)
-  left_rewritten (Refused c) z = ap rewritten (sym (refused_reads s (lent vt mt ot ts) l c (sym e ∙ z)))
+  left_rewritten : (z : Result PlanRecord Complaint) → a ≡ z → rewrite_or z left ≡ rewritten (reading s)
+  left_rewritten (Ok r) z = let w = left_lies s l e v m o k r z in ap text w.1.is ∙ ap rewritten (sym w.1.reads)
+  left_rewritten (Err c) z = ap rewritten (sym (refused_reads s (lent vt mt ot ts) l c (sym e ∙ z)))
 
   -- where the plan is not too large
   pub read_printed :
-      {y : Bool} → y ≡ ltb max_input (length s) → y ≡ false → (u : List ℕ) {b : TextAnswer} {p : List ℕ} →
+      {y : Bool} → y ≡ ltb max_input (length s) → y ≡ false → (u : List ℕ) {b : Result ℕ Refusal} {p : List ℕ} →
       Printed (rewrite_or a left) u b p → Printed (rewrite_text s) u b p
   unfolding rewrite_text
   read_printed f n u w =
@@ -103,7 +101,7 @@ module _ (s : List ℕ) {vt mt ot ts : List ℕ} (l : Ample (lent vt mt ot ts)) 
 
 -- where it is
 pub large_printed :
-    (s u : List ℕ) {y : Bool} → y ≡ ltb max_input (length s) → y ≡ true → {c : Complaint} → c ≡ no_room → {b : TextAnswer} {p : List ℕ} →
+    (s u : List ℕ) {y : Bool} → y ≡ ltb max_input (length s) → y ≡ true → {c : Complaint} → c ≡ no_room → {b : Result ℕ Refusal} {p : List ℕ} →
     Printed (refused_line c) u b p → Printed (rewrite_text s) u b p
 unfolding rewrite_text
 large_printed s u f n k w =

@@ -9,31 +9,30 @@ ghost use Rattle.records_read.specs.Lies.{Sure};
 ghost use Rattle.desk_rooms.specs.Whole.{Counted};
 ghost use Rattle.desk_write.specs.Rewritten.{rewrite_or, rewrite_text, rewrite_bytes};
 
-use listing_lines::TextAnswer;
-use plan::no_room;
-use read_answer::PlanAnswer;
+use plan::{Complaint, Refusal, no_room};
+use plan_tables::PlanRecord;
 
 // Writes an accepted plan from the tables that its reading left; for a refused one its line.
 fn plan_or(
-    a: PlanAnswer,
+    a: Result<PlanRecord, Complaint>,
     vt: &[u64],
     mt: &[u64],
     ot: &[u64],
     ts: &[u64],
     out: &mut [u8],
-) -> TextAnswer
+) -> Result<usize, Refusal>
     requires { Sure a (lent vt.now mt.now ot.now ts.now) }
     ensures value { result ≡ text_answer (rewrite_or a (lent vt.now mt.now ot.now ts.now)) out.old }
     ensures out_after { out.new ≡ text_after (rewrite_or a (lent vt.now mt.now ot.now ts.now)) out.old }
 {
     match a {
-        PlanAnswer::Accepted(r) => write_tables::plan_into(r, vt, mt, ot, ts, out),
-        PlanAnswer::Refused(c) => desk_refusals::refusal_text(c, out),
+        Ok(r) => write_tables::plan_into(r, vt, mt, ot, ts, out),
+        Err(c) => desk_refusals::refusal_text(c, out),
     }
 }
 
 // What `rewrite` prints for any input, into a lent buffer; with too little room 8, and the buffer as it was lent.
-pub fn rewrite_text(src: &[u8], out: &mut [u8]) -> TextAnswer
+pub fn rewrite_text(src: &[u8], out: &mut [u8]) -> Result<usize, Refusal>
     ensures value { result ≡ text_answer (rewrite_text src.now) out.old }
     ensures out_after { out.new ≡ text_after (rewrite_text src.now) out.old }
 {

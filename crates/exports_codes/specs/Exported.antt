@@ -1,13 +1,11 @@
 -- An answer as one number for C: the bytes written, or how a run ends, or the refusal's number, negated.
-use Rattle.std.specs.Prelude.{ℕ, ◌≤◌, ◌<◌, ◌^◌, ◌≡◌, refl, List, [], ◌∷◌, Bool, true, false, ℤ, pos, neg_ℤ, length, drop, set}
+use Rattle.std.specs.Prelude.{ℕ, ◌≤◌, ◌<◌, ◌^◌, ◌≡◌, refl, List, [], ◌∷◌, Bool, true, false, ℤ, pos, neg_ℤ, length, drop, set, Result, Ok, Err}
 use Rattle.std.proofs.Common.{sym, ap, subst, ◌∙◌, arith, SFits, to_z, of_z, to_z-of_z}
 use Rattle.std.specs.Int.{w64}
 use Rattle.std.proofs.Math.Facts.{sfits_lit}
 use Rattle.plan.specs.declared.Refusal.{Refusal}
 use Rattle.plan.specs.declared.Refusal.TheVariants.{Shape, Number, Range, Order, Missing, Outside, TooMany, Room, Foreign, Unknown, Unlisted, Asleep, Busy, NotHolder, Supply}
 use Rattle.plan.specs.Refusals.{number_of}
-use Rattle.listing_lines.specs.declared.TextAnswer.{TextAnswer}
-use Rattle.listing_lines.specs.declared.TextAnswer.TheVariants.{Written, Refused}
 use Rattle.listing_lines.specs.Into.{has_room, text_answer, bytes_in}
 use Rattle.clock_rules.specs.declared.RunAnswer.{RunAnswer}
 use Rattle.clock_rules.specs.declared.RunAnswer.TheVariants.{Ended, Missed, NoRun}
@@ -16,9 +14,9 @@ use Rattle.clock_rules.specs.declared.RunAnswer.TheVariants.{Ended, Missed, NoRu
 unfoldable pub negated : Refusal → ℤ
 negated r = neg_ℤ (pos (number_of r))
 
-unfoldable pub exported : TextAnswer → ℤ
-exported (Written n) = pos n
-exported (Refused r) = negated r
+unfoldable pub exported : Result ℕ Refusal → ℤ
+exported (Ok n) = pos n
+exported (Err r) = negated r
 
 -- how a run ends: 0 before its horizon, 1 at a missed job
 unfoldable pub run_exported : RunAnswer → ℤ
@@ -33,11 +31,11 @@ missed_left (Missed t v n) ys = t ∷ v ∷ n ∷ drop 3 ys
 missed_left (NoRun r) ys = ys
 
 -- an answer counts no more bytes than its text has
-pub answer_bound : (t o : List ℕ) {a : TextAnswer} {m : ℕ} → a ≡ text_answer t o → length t ≤ m → bytes_in a ≤ m
+pub answer_bound : (t o : List ℕ) {a : Result ℕ Refusal} {m : ℕ} → a ≡ text_answer t o → length t ≤ m → bytes_in a ≤ m
 unfolding text_answer
 answer_bound t o {a} {m} e h = subst (λ x. bytes_in x ≤ m) (sym e) (go (has_room t o))
   where
-    go : (x : Bool) → bytes_in (elim x [ true ↦ Written (length t) | false ↦ Refused Room ]) ≤ m
+    go : (x : Bool) → bytes_in (elim x [ true ↦ Ok (length t) | false ↦ Err Room ]) ≤ m
     go true = h
     go false = omega arith
 
@@ -60,10 +58,10 @@ negated_fits Busy = sfits_lit tt
 negated_fits NotHolder = sfits_lit tt
 negated_fits Supply = sfits_lit tt
 
-pub exported_fits : (a : TextAnswer) → bytes_in a < 2 ^ 63 → SFits w64 (exported a)
+pub exported_fits : (a : Result ℕ Refusal) → bytes_in a < 2 ^ 63 → SFits w64 (exported a)
 unfolding exported
-exported_fits (Written n) h = record { sfits = h }
-exported_fits (Refused r) h = negated_fits r
+exported_fits (Ok n) h = record { sfits = h }
+exported_fits (Err r) h = negated_fits r
 
 pub run_fits : (a : RunAnswer) → SFits w64 (run_exported a)
 unfolding run_exported

@@ -6,7 +6,6 @@ ghost use Rattle.listing_lines.specs.Into.{bytes_in};
 ghost use Rattle.exports_codes.specs.Exported.{negated, exported, run_exported, missed_left};
 
 use clock_rules::RunAnswer;
-use listing_lines::TextAnswer;
 use plan::Refusal;
 
 // A refusal as a number below 0.
@@ -33,13 +32,13 @@ fn negated(r: Refusal) -> i64
 }
 
 // An answer as one number.
-pub fn exported(a: TextAnswer) -> i64
+pub fn exported(a: Result<usize, Refusal>) -> i64
     requires { bytes_in a < 2 ^ 63 }
     ensures { result ≡ exported a }
 {
     match a {
-        TextAnswer::Written(n) => n as i64,
-        TextAnswer::Refused(r) => negated(r),
+        Ok(n) => n as i64,
+        Err(r) => negated(r),
     }
 }
 

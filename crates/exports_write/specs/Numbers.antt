@@ -1,5 +1,5 @@
 -- A plan's record as six numbers, for C: the policy (0 is P, 1 is D), the overrun choice (0 is N, 1 is O), and how many rows of VCPUs, mutexes, openings and tasks.
-use Rattle.std.specs.Prelude.{ℕ, zero, suc, ◌≤◌, ◌<◌, ◌^◌, ◌≡◌, refl, List, [], ◌∷◌, Bool, true, false, ◌&&◌, ◌↔◌, eqb, leb, length, get_or}
+use Rattle.std.specs.Prelude.{ℕ, zero, suc, ◌≤◌, ◌<◌, ◌^◌, ◌≡◌, refl, List, [], ◌∷◌, Bool, true, false, ◌&&◌, ◌↔◌, eqb, leb, length, get_or, Result, Err}
 use Rattle.std.proofs.Math.Path.{ap}
 use Rattle.std.proofs.Common.{ap₂, sym, subst, ◌∙◌, arith, leb-true, eqb-true}
 use Rattle.std.specs.Prelude.{if◌then◌else◌}
@@ -9,11 +9,10 @@ use Rattle.plan.specs.declared.Policy.{Policy}
 use Rattle.plan.specs.declared.Policy.TheVariants.{Periodic, Deferrable}
 use Rattle.plan.specs.declared.OverrunChoice.{OverrunChoice}
 use Rattle.plan.specs.declared.OverrunChoice.TheVariants.{WithOverrun, WithoutOverrun}
+use Rattle.plan.specs.declared.Refusal.{Refusal}
 use Rattle.plan_tables.specs.declared.PlanRecord.{PlanRecord}
 use Rattle.plan_tables.specs.Layout.{Tables}
 use Rattle.plan_tables.proofs.GivenLaws.{given_exactly}
-use Rattle.listing_lines.specs.declared.TextAnswer.{TextAnswer}
-use Rattle.listing_lines.specs.declared.TextAnswer.TheVariants.{Refused}
 use Rattle.listing_lines.specs.Into.{bytes_in}
 use Rattle.write_asked.specs.Asked.{plan_asked, plan_left}
 use Rattle.write_asked.proofs.Back.{Outcome, Whole, Short, Nobody, outcome}
@@ -54,8 +53,8 @@ unfoldable pub is_record : List ℕ → Bool
 is_record ns = eqb (length ns) 6 && (leb (get_or ns 0 0) 1 && leb (get_or ns 1 0) 1)
 
 -- what is asked of six numbers and tables: 9 where they are no record's
-unfoldable pub numbers_asked : List ℕ → Tables → List ℕ → TextAnswer
-numbers_asked ns t o = if is_record ns then plan_asked (record_from ns) t o else Refused Foreign
+unfoldable pub numbers_asked : List ℕ → Tables → List ℕ → Result ℕ Refusal
+numbers_asked ns t o = if is_record ns then plan_asked (record_from ns) t o else Err Foreign
 
 unfoldable pub numbers_left : List ℕ → Tables → List ℕ → List ℕ
 numbers_left ns t o = if is_record ns then plan_left (record_from ns) t o else o
@@ -111,7 +110,7 @@ unfolding numbers_asked numbers_left
 numbers_same r t o =
     let e = (record_exactly (numbers_of r)).1 (r, refl) in
     let f = record_back r in (
-      ap (λ (b : Bool). if b then plan_asked (record_from (numbers_of r)) t o else Refused Foreign) e ∙ ap (λ x. plan_asked x t o) f,
+      ap (λ (b : Bool). if b then plan_asked (record_from (numbers_of r)) t o else Err Foreign) e ∙ ap (λ x. plan_asked x t o) f,
       ap (λ (b : Bool). if b then plan_left (record_from (numbers_of r)) t o else o) e ∙ ap (λ x. plan_left x t o) f,
     )
 
@@ -136,12 +135,12 @@ unfolding record_from
 record_made ns ea ep eb ec ev em eo ek = rw (ep, ea, ec, eb, ev, em, eo, ek)
 
 module _ (ns : List ℕ) (t : Tables) (o : List ℕ) {b : Bool} (e : b ≡ is_record ns) where
-  pub numbers_none : b ≡ false → (Refused Foreign ≡ numbers_asked ns t o) × (o ≡ numbers_left ns t o)
+  pub numbers_none : b ≡ false → (Err Foreign ≡ numbers_asked ns t o) × (o ≡ numbers_left ns t o)
   unfolding numbers_asked numbers_left
   numbers_none h = rw (sym e ∙ h) (refl, refl)
 
   pub numbers_some :
-      b ≡ true → {r : PlanRecord} → r ≡ record_from ns → {a : TextAnswer} {p : List ℕ} → a ≡ plan_asked r t o → p ≡ plan_left r t o →
+      b ≡ true → {r : PlanRecord} → r ≡ record_from ns → {a : Result ℕ Refusal} {p : List ℕ} → a ≡ plan_asked r t o → p ≡ plan_left r t o →
       (a ≡ numbers_asked ns t o) × (p ≡ numbers_left ns t o)
   unfolding numbers_asked numbers_left
   numbers_some h k f g = rw (sym e ∙ h) (f ∙ ap (λ r. plan_asked r t o) k, g ∙ ap (λ r. plan_left r t o) k)
@@ -159,6 +158,6 @@ pub numbers_short : (ns : List ℕ) (t : Tables) (o : List ℕ) → bytes_in (nu
 unfolding numbers_asked
 numbers_short ns t o = go (is_record ns)
   where
-    go : (b : Bool) → bytes_in (if b then plan_asked (record_from ns) t o else Refused Foreign) < 2 ^ 63
+    go : (b : Bool) → bytes_in (if b then plan_asked (record_from ns) t o else Err Foreign) < 2 ^ 63
     go true = omega (arith, asked_short (record_from ns) t o)
     go false = omega arith

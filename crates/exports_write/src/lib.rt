@@ -6,7 +6,6 @@ ghost use Rattle.plan_tables.specs.Layout.{lent};
 ghost use Rattle.exports_codes.specs.Exported.{exported};
 ghost use Rattle.exports_write.specs.Numbers.{policy_from, overrun_from, record_from, is_record, numbers_asked, numbers_left};
 
-use listing_lines::TextAnswer;
 use plan::{OverrunChoice, Policy, Refusal};
 use plan_tables::{PlanRecord, at};
 
@@ -67,12 +66,12 @@ fn write_numbers(
     ot: &[u64],
     ts: &[u64],
     out: &mut [u8],
-) -> TextAnswer
+) -> Result<usize, Refusal>
     ensures value { result ≡ numbers_asked numbers.now (lent vt.now mt.now ot.now ts.now) out.old }
     ensures out_after { out.new ≡ numbers_left numbers.now (lent vt.now mt.now ot.now ts.now) out.old }
 {
     if !is_record(numbers) {
-        return TextAnswer::Refused(Refusal::Foreign);
+        return Err(Refusal::Foreign);
     }
     let r = record_from(numbers);
     write_tables::write_plan(r, vt, mt, ot, ts, out)

@@ -5,60 +5,52 @@ ghost use Rattle.std.specs.Prelude.{◌≡◌, true, ◌<◌};
 ghost use Rattle.laws.specs.Rows.{rows, Is};
 ghost use Rattle.plan.specs.Lookup.{has_vcpu};
 ghost use Rattle.plan_tables.specs.Layout.{vcpu_row, task_row};
-ghost use Rattle.figures.specs.Tabled.{Fit, system_in};
+ghost use Rattle.figures_cells.specs.Held.{system_of};
 ghost use Rattle.figures.specs.Figures.{vcpu_at, ght, higher_task, overrun_by};
 ghost use Rattle.figures_found.specs.First.{TaskFirst};
 
+use figures_cells::PlanTables;
 use plan::OverrunChoice;
-use plan_tables::PlanRecord;
 
 // The row of VCPU v, which the plan has.
-pub fn vcpu_of(r: PlanRecord, vt: &[u64], mt: &[u64], ts: &[u64], v: u64) -> usize
-    requires { Fit r vt.now mt.now ts.now × (has_vcpu (rows r.vcpus (vcpu_row vt.now)) v ≡ true) }
-    ensures { (result < r.vcpus) × (vcpu_at (system_in r vt.now mt.now ts.now) v ≡ vcpu_row vt.now result) }
+pub fn vcpu_of(t: &PlanTables, v: u64) -> usize
+    requires { has_vcpu (rows t.now.plan.vcpus (vcpu_row t.now.vcpus.now)) v ≡ true }
+    ensures { (result < t.now.plan.vcpus) × (vcpu_at (system_of t.now) v ≡ vcpu_row t.now.vcpus.now result) }
 {
-    figures_found::vcpu_row(r, vt, mt, ts, v)
+    figures_found::vcpu_row(t, v)
 }
 
 // The first row of task (v, n), or at least the number of rows.
-pub fn task_row(r: PlanRecord, vt: &[u64], mt: &[u64], ts: &[u64], v: u64, n: u64) -> usize
-    requires { Fit r vt.now mt.now ts.now }
-    ensures { TaskFirst r ts.now v n result }
+pub fn task_row(t: &PlanTables, v: u64, n: u64) -> usize
+    ensures { TaskFirst t.now.plan t.now.tasks.now v n result }
 {
-    let e = r.tasks;
-    let mut a = 0;
-    while a < e {
-        if figures_cells::row_task(r, vt, mt, ts, a, v, n) {
+    let e = t.plan.tasks;
+    for a in 0..e {
+        if t.row_task(a, v, n) {
             return a;
         }
-        a += 1;
     }
-    a
+    e
 }
 
 // Is task h a higher task of task i's VCPU?
-pub fn is_higher(r: PlanRecord, vt: &[u64], mt: &[u64], ts: &[u64], i: usize, h: usize) -> bool
-    requires { Fit r vt.now mt.now ts.now × (i < r.tasks) × (h < r.tasks) }
-    ensures { result ≡ higher_task (task_row ts.now i) (task_row ts.now h) }
+pub fn is_higher(t: &PlanTables, i: usize, h: usize) -> bool
+    requires { (i < t.now.plan.tasks) × (h < t.now.plan.tasks) }
+    ensures { result ≡ higher_task (task_row t.now.tasks.now i) (task_row t.now.tasks.now h) }
 {
-    let same = figures_cells::task_cell(r, vt, mt, ts, h, 0)
-        == figures_cells::task_cell(r, vt, mt, ts, i, 0);
-    same & (figures_cells::task_cell(r, vt, mt, ts, i, 1)
-        < figures_cells::task_cell(r, vt, mt, ts, h, 1))
+    let same = t.task_cell(h, 0) == t.task_cell(i, 0);
+    same & (t.task_cell(i, 1) < t.task_cell(h, 1))
 }
 
 // The ght of VCPU v.
-pub fn ght_of(r: PlanRecord, vt: &[u64], mt: &[u64], ts: &[u64], v: u64) -> u64
-    requires { Fit r vt.now mt.now ts.now }
-    ensures { Is result (ght (system_in r vt.now mt.now ts.now) v) 64000000 }
+pub fn ght_of(t: &PlanTables, v: u64) -> u64
+    ensures { Is result (ght (system_of t.now) v) 64000000 }
 {
-    let n = r.tasks;
+    let n = t.plan.tasks;
     let mut s: u64 = 0;
-    let mut h = 0;
-    while h < n {
-        let x = figures_found::ght_at(r, vt, mt, ts, v, h);
+    for h in 0..n {
+        let x = figures_found::ght_at(t, v, h);
         s = s + x;
-        h += 1;
     }
     s
 }

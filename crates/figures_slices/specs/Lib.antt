@@ -1,9 +1,10 @@
-pub mod Store
-pub mod FitLaws
+pub mod CostLaws
+pub mod Costs
 pub mod Filled
 pub mod FilledLaws
+pub mod FitLaws
+pub mod Lent
 pub mod Places
+pub mod Store
 pub mod Stored
 pub mod StoredLaws
-pub mod Costs
-pub mod CostLaws

@@ -5,11 +5,11 @@ ghost use Rattle.std.specs.Prelude.{◌≡◌, ◌+◌, ◌*◌, ◌<◌, ◌≤
 ghost use Rattle.laws.specs.Choice.{when};
 ghost use Rattle.laws.specs.Rows.{Is};
 ghost use Rattle.plan_tables.specs.Layout.{vcpu_row};
-ghost use Rattle.figures.specs.Tabled.{Fit, system_in};
+ghost use Rattle.figures_cells.specs.Held.{system_of};
 ghost use Rattle.figures.specs.Figures.{higher_on, ght, preemption};
-ghost use Rattle.figures_slices.specs.Stored.{VcpusIn, PreemptionsIn};
+ghost use Rattle.figures_slices.specs.Lent.{VcpusOf, PreemptionsOf};
 
-use plan_tables::PlanRecord;
+use figures_cells::PlanTables;
 
 // Writes the first two numbers of VCPU a.
 fn put_vcpu(vf: &mut [u64], a: usize, x: u64, y: u64)
@@ -21,35 +21,25 @@ fn put_vcpu(vf: &mut [u64], a: usize, x: u64, y: u64)
 }
 
 // Stores the ght of each VCPU, and its budget with overrun.
-pub fn fill_vcpus(r: PlanRecord, vt: &[u64], mt: &[u64], ts: &[u64], vf: &mut [u64])
-    requires { Fit r vt.now mt.now ts.now × (48 ≤ length vf.old) }
-    ensures { VcpusIn r vt.now mt.now ts.now vf.new }
+pub fn fill_vcpus(t: &PlanTables, vf: &mut [u64])
+    requires { 48 ≤ length vf.old }
+    ensures { VcpusOf t.now vf.new }
 {
-    let n = r.vcpus;
-    let o = r.overrun;
-    let mut a = 0;
-    while a < n {
-        let g = figures_named::ght_of(r, vt, mt, ts, figures_cells::vcpu_cell(r, vt, mt, ts, a, 0));
-        let x = figures_cells::vcpu_cell(r, vt, mt, ts, a, 3) + figures_named::overrun_by(o, g);
+    let n = t.plan.vcpus;
+    let o = t.plan.overrun;
+    for a in 0..n {
+        let g = figures_named::ght_of(t, t.vcpu_cell(a, 0));
+        let x = t.vcpu_cell(a, 3) + figures_named::overrun_by(o, g);
         put_vcpu(vf, a, g, x);
-        a += 1;
     }
 }
 
 // What VCPU b adds to the preemption of VCPU a.
-fn preempts_by(
-    r: PlanRecord,
-    vt: &[u64],
-    mt: &[u64],
-    ts: &[u64],
-    vf: &[u64],
-    a: usize,
-    b: usize,
-) -> u64
-    requires { Fit r vt.now mt.now ts.now × VcpusIn r vt.now mt.now ts.now vf.now × (a < r.vcpus) × (b < r.vcpus) }
-    ensures { Is result (when (higher_on (vcpu_row vt.now a) (vcpu_row vt.now b)) (ght (system_in r vt.now mt.now ts.now) (vcpu_row vt.now b).v)) 64000000 }
+fn preempts_by(t: &PlanTables, vf: &[u64], a: usize, b: usize) -> u64
+    requires { VcpusOf t.now vf.now × (a < t.now.plan.vcpus) × (b < t.now.plan.vcpus) }
+    ensures { Is result (when (higher_on (vcpu_row t.now.vcpus.now a) (vcpu_row t.now.vcpus.now b)) (ght (system_of t.now) (vcpu_row t.now.vcpus.now b).v)) 64000000 }
 {
-    if figures_found::is_higher_on(r, vt, mt, ts, a, b) {
+    if figures_found::is_higher_on(t, a, b) {
         vf[b * 3]
     } else {
         0
@@ -57,31 +47,27 @@ fn preempts_by(
 }
 
 // The preemption of VCPU a.
-fn preemption_of(r: PlanRecord, vt: &[u64], mt: &[u64], ts: &[u64], vf: &[u64], a: usize) -> u64
-    requires { Fit r vt.now mt.now ts.now × VcpusIn r vt.now mt.now ts.now vf.now × (a < r.vcpus) }
-    ensures { Is result (preemption (system_in r vt.now mt.now ts.now) (vcpu_row vt.now a)) 1024000000 }
+fn preemption_of(t: &PlanTables, vf: &[u64], a: usize) -> u64
+    requires { VcpusOf t.now vf.now × (a < t.now.plan.vcpus) }
+    ensures { Is result (preemption (system_of t.now) (vcpu_row t.now.vcpus.now a)) 1024000000 }
 {
-    let n = r.vcpus;
+    let n = t.plan.vcpus;
     let mut s: u64 = 0;
-    let mut b = 0;
-    while b < n {
-        let x = preempts_by(r, vt, mt, ts, vf, a, b);
+    for b in 0..n {
+        let x = preempts_by(t, vf, a, b);
         s = s + x;
-        b += 1;
     }
     s
 }
 
 // Stores the preemption of each VCPU.
-pub fn fill_preemptions(r: PlanRecord, vt: &[u64], mt: &[u64], ts: &[u64], vf: &mut [u64])
-    requires { Fit r vt.now mt.now ts.now × VcpusIn r vt.now mt.now ts.now vf.old }
-    ensures { VcpusIn r vt.now mt.now ts.now vf.new × PreemptionsIn r vt.now mt.now ts.now vf.new }
+pub fn fill_preemptions(t: &PlanTables, vf: &mut [u64])
+    requires { VcpusOf t.now vf.old }
+    ensures { VcpusOf t.now vf.new × PreemptionsOf t.now vf.new }
 {
-    let n = r.vcpus;
-    let mut a = 0;
-    while a < n {
-        let x = preemption_of(r, vt, mt, ts, vf, a);
+    let n = t.plan.vcpus;
+    for a in 0..n {
+        let x = preemption_of(t, vf, a);
         vf[a * 3 + 2] = x;
-        a += 1;
     }
 }

@@ -76,13 +76,11 @@ fn locks_clear(
     requires { (i ≤ tests.most_rows) × (c ≤ max_locks) }
     ensures { result ≡ all (clear.lock_at owners.now opens.now t.now guest v i) (rows c (λ j. j)) }
 {
-    let mut j = 0;
-    while j < c {
+    for j in 0..c {
         let one = lock_at(owners, opens, t, guest, v, i, j);
         if !one {
             return false;
         }
-        j += 1;
     }
     true
 }
@@ -147,8 +145,7 @@ pub fn tasks_clear(
     ensures { result ≡ clear.tasks_clear guests.now hosted.now owners.now opens.now t.now (rows n (layout.vcpu_row vt.now)) m }
 {
     let mut last = 0;
-    let mut i = 0;
-    while i < m {
+    for i in 0..m {
         let guest = host_after(vt, n, t, i, last);
         let on = begins_after(i, guest, last);
         let one = task_clear(guests, hosted, owners, opens, t, on, last, guest, i);
@@ -156,7 +153,6 @@ pub fn tasks_clear(
             return false;
         }
         last = guest;
-        i += 1;
     }
     true
 }

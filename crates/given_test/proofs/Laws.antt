@@ -1,22 +1,22 @@
 -- What the judge holds after an item or a row, from its parts.
+use Rattle.std.specs.Prelude.{is_ok}
 use Prim.Native.Nat.{ℕ}
 use mathlib.Core.Path.{◌≡◌}
 use mathlib.Core.List.{List}
 use mathlib.Core.Bool.{Bool, ◌&&◌}
-use Rattle.plan.specs.declared.Fault.{Fault}
+use Rattle.plan.specs.Refusals.{Fault}
 use Rattle.plan.specs.declared.Kind.TheVariants.{VcpuLine, OpenLine}
 use Rattle.plan.specs.Line.{Item, shape, size, nums_of}
 use Rattle.plan.specs.Reading.{fault}
 use Rattle.judge_coded.specs.declared.Seen.{Seen}
 use Rattle.judge_coded.specs.Coded.{coded, item}
 use Rattle.plan_tables.specs.Layout.{vcpu_width, open_width, cell, vcpu_row, open_row}
-use Rattle.plan_tables.specs.Given.{is_clear}
 use Rattle.given_test.specs.Feed.{Run, feed, feeds, vcpu_lines, open_lines}
 
 -- an item
 pub item_fed :
     (run : Run) (i : Item) {f : Fault} {b : Bool} {s : Seen} →
-    f ≡ fault coded run.seen i → b ≡ is_clear f → s ≡ coded.next run.seen i → record { ok = run.ok && b; seen = s } ≡ feed run i
+    f ≡ fault coded run.seen i → b ≡ is_ok f → s ≡ coded.next run.seen i → record { ok = run.ok && b; seen = s } ≡ feed run i
 unfolding feed
 item_fed run i e h k = rw (k, h, e)
 

@@ -1,5 +1,5 @@
 -- The judge over items, one after the other, and the items of rows.
-use Rattle.std.specs.Prelude.{ℕ, zero, suc, ◌≤◌, ◌≡◌, List, [], ◌∷◌, ◌++◌, Bool, true, false, ◌&&◌}
+use Rattle.std.specs.Prelude.{ℕ, zero, suc, ◌≤◌, ◌≡◌, List, [], ◌∷◌, ◌++◌, Bool, true, false, ◌&&◌, is_ok}
 use Rattle.plan.specs.declared.Kind.{Kind}
 use Rattle.plan.specs.declared.Kind.TheVariants.{MutexG, MutexL, GuestLine, TaskLine, LockLine}
 use Rattle.plan.specs.Line.{Item}
@@ -8,7 +8,6 @@ use Rattle.plan.specs.Text.{item, vcpu_item, owned_item, open_item, run_item}
 use Rattle.plan.specs.Reading.{fault}
 use Rattle.judge_coded.specs.Coded.{coded, start}
 use Rattle.plan_tables.specs.Layout.{task_width, cell, vcpu_row, mutex_row, open_row, lock_row}
-use Rattle.plan_tables.specs.Given.{is_clear}
 use Rattle.given_tidy.specs.Hosts.{host_of, begins}
 pub use Rattle.given_test.specs.declared.Run.{Run}
 
@@ -20,7 +19,7 @@ fresh = record { ok = true; seen = start }
 
 -- after one item more
 unfoldable pub feed : Run → Item → Run
-feed r i = record { ok = r.ok && is_clear (fault coded r.seen i); seen = coded.next r.seen i }
+feed r i = record { ok = r.ok && is_ok (fault coded r.seen i); seen = coded.next r.seen i }
 
 unfoldable pub feeds : Run → List Item → Run
 feeds r [] = r

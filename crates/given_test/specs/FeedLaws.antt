@@ -1,6 +1,6 @@
 -- Laws of `feeds`: what the judge says of items in turn is whether they are clean; and the items of rows, one row more at a time.
 use Prim.Native.Nat.{ℕ, zero, suc, ◌+◌, ◌≤◌, ◌<◌}
-use Rattle.std.specs.Prelude.{◌≡◌, List, [], ◌∷◌, ◌++◌, ◌&&◌}
+use Rattle.std.specs.Prelude.{◌≡◌, List, [], ◌∷◌, ◌++◌, ◌&&◌, is_ok}
 use Rattle.std.proofs.Math.Path.{refl, ap, sym}
 use Rattle.std.proofs.Common.{◌∙◌, append_assoc, le_antisymm, arith}
 use Rattle.std.proofs.Math.Bool.{and_assoc}
@@ -9,14 +9,14 @@ use Rattle.plan.specs.Line.{Item}
 use Rattle.plan.specs.Reading.{fault}
 use Rattle.laws.specs.Rows.{rows}
 use Rattle.judge_coded.specs.Coded.{coded}
-use Rattle.plan_tables.specs.Given.{is_clear, clean}
+use Rattle.plan_tables.specs.Given.{clean}
 use Rattle.given_test.specs.Feed.{Run, feed, feeds, passing, lined, Fed}
 
 -- a run that was passing until now passes after items exactly when they are clean
 pub fed_clean : (r : Run) (is : List Item) → passing (feeds r is) ≡ (r.ok && clean coded r.seen is)
 unfolding feeds feed clean
 fed_clean r [] = refl
-fed_clean r (i ∷ is) = fed_clean (feed r i) is ∙ and_assoc r.ok (is_clear (fault coded r.seen i)) (clean coded (coded.next r.seen i) is)
+fed_clean r (i ∷ is) = fed_clean (feed r i) is ∙ and_assoc r.ok (is_ok (fault coded r.seen i)) (clean coded (coded.next r.seen i) is)
 
 pub feeds_append : (r : Run) (is js : List Item) → feeds r (is ++ js) ≡ feeds (feeds r is) js
 unfolding feeds

@@ -1,6 +1,6 @@
 -- What the judge says of the lines of tasks is what is asked of their rows (specs/Clear of `given_tasks`): they change only the phase, the section's guest and task, and the counts.
 use Prim.Native.Nat.{ℕ, zero, suc, ◌-◌, ◌≤◌, ◌<◌}
-use Rattle.std.specs.Prelude.{◌≡◌, List, [], ◌∷◌, cond, ◌||◌, get_or}
+use Rattle.std.specs.Prelude.{◌≡◌, List, [], ◌∷◌, cond, ◌||◌, get_or, Ok, is_ok}
 use Rattle.std.proofs.Math.Path.{refl, ap, ap₂, sym}
 use Rattle.std.proofs.Common.{◌∙◌}
 use Rattle.std.proofs.Math.Bool.{Bool, true, false, ◌&&◌, not, and-true, and-false, and_assoc, and_self_left}
@@ -12,11 +12,9 @@ use Rattle.laws.specs.Rows.{rows}
 use Rattle.laws.specs.RowLaws.{all_next}
 use Rattle.laws.specs.BoolLaws.{both, both_left, both_right, miss_left, neither_right}
 use Rattle.plan.specs.Limits.{max_v, max_guest, max_m, max_n, max_period, max_length, max_tasks, max_locks}
-use Rattle.plan.specs.declared.Fault.{Fault}
-use Rattle.plan.specs.declared.Fault.TheVariants.{Clear}
 use Rattle.plan.specs.declared.Refusal.{Refusal}
 use Rattle.plan.specs.declared.Refusal.TheVariants.{Shape, Number, Range, Order, Missing, Outside, TooMany}
-use Rattle.plan.specs.Refusals.{unless}
+use Rattle.plan.specs.Refusals.{unless, Fault}
 use Rattle.plan.specs.declared.Kind.TheVariants.{GuestLine, TaskLine, RunLine, LockLine, EndLine}
 use Rattle.plan.specs.Line.{Item, bad, shape, written}
 use Rattle.plan.specs.Plan.{Vcpu}
@@ -26,23 +24,22 @@ use Rattle.plan.specs.Text.{item, run_item}
 use Rattle.judge_coded.specs.declared.Seen.{Seen}
 use Rattle.judge_coded.specs.Coded.{coded, ranged, reached, bump, placed, seen_by, ruled, guest_fault, host_fault, task_fault, run_fault, lock_fault}
 use Rattle.plan_tables.specs.Layout.{task_width, cell, lock_row}
-use Rattle.plan_tables.specs.Given.{is_clear}
 use Rattle.given_tidy.specs.Hosts.{host_of, begins}
 use Rattle.given_tasks.specs.Clear.{run_clear, lock_clear, guest_clear, head_clear, lock_at, head_at, task_clear, task_at, tasks_clear}
 use Rattle.given_test.specs.Feed.{Run, feed, feeds, passing, Bare, lined, lock_lines, guest_line, head_lines, task_lines}
 use Rattle.given_test.specs.FeedLaws.{feeds_append}
 
 -- A FAULT IS CLEAR where each of its tests holds
-clear_unless : (b : Bool) (k : Refusal) (f : Fault) → is_clear (unless b k f) ≡ (b && is_clear f)
+clear_unless : (b : Bool) (k : Refusal) (f : Fault) → is_ok (unless b k f) ≡ (b && is_ok f)
 unfolding unless
 clear_unless true k f = refl
 clear_unless false k f = refl
 
 -- the last test
-clear_last : (b : Bool) (k : Refusal) → is_clear (unless b k Clear) ≡ b
-clear_last b k = clear_unless b k Clear ∙ and-true b
+clear_last : (b : Bool) (k : Refusal) → is_ok (unless b k (Ok tt)) ≡ b
+clear_last b k = clear_unless b k (Ok tt) ∙ and-true b
 
-clear_next : (b : Bool) (k : Refusal) (f : Fault) {c : Bool} → is_clear f ≡ c → is_clear (unless b k f) ≡ (b && c)
+clear_next : (b : Bool) (k : Refusal) (f : Fault) {c : Bool} → is_ok f ≡ c → is_ok (unless b k f) ≡ (b && c)
 clear_next b k f e = clear_unless b k f ∙ ap (λ x. b && x) e
 
 -- a number in its range has few digits
@@ -56,14 +53,14 @@ implied w false h = and-false w
 
 module _ (t : Seen) where
   fault_clear :
-      (i : Item) (c : Bool) → (c ≡ true → written (shape i.kind) i.nums ≡ true) → is_clear (ruled t i.kind i.nums) ≡ c →
-      is_clear (fault coded t i) ≡ (follows t.phase i.kind && c)
+      (i : Item) (c : Bool) → (c ≡ true → written (shape i.kind) i.nums ≡ true) → is_ok (ruled t i.kind i.nums) ≡ c →
+      is_ok (fault coded t i) ≡ (follows t.phase i.kind && c)
   unfolding fault
   fault_clear i c e h =
       clear_next (follows t.phase i.kind) Shape _
       (clear_next (written (shape i.kind) i.nums) Number _ h ∙ implied (written (shape i.kind) i.nums) c e)
 
-  guest_clear_law : (g : ℕ) → is_clear (fault coded t (item GuestLine (g ∷ []))) ≡ (follows t.phase GuestLine && guest_clear t.hosted t.guest g)
+  guest_clear_law : (g : ℕ) → is_ok (fault coded t (item GuestLine (g ∷ []))) ≡ (follows t.phase GuestLine && guest_clear t.hosted t.guest g)
   unfolding written shape ruled guest_fault guest_clear
   guest_clear_law g =
       let r : Bool = within g 1 max_guest in
@@ -71,7 +68,7 @@ module _ (t : Seen) where
       fault_clear (item GuestLine (g ∷ [])) (r && c) (λ h. both (ltb g bad) true (few_digits g 1 max_guest (omega arith) (both_left r c h)) refl)
       (clear_next r Range _ (clear_next (ltb t.guest g) Order _ (clear_last (eqb (get_or t.hosted g 0) 1) Missing)))
 
-  run_clear_law : (a : ℕ) → is_clear (fault coded t (run_item a)) ≡ (follows t.phase RunLine && run_clear a)
+  run_clear_law : (a : ℕ) → is_ok (fault coded t (run_item a)) ≡ (follows t.phase RunLine && run_clear a)
   unfolding written shape ruled run_fault
   run_clear_law a =
       fault_clear (run_item a) (run_clear a) (λ h. both (ltb a bad) true (few_digits a 0 max_length (omega arith) h) refl) (clear_last (within a 0 max_length) Range)
@@ -85,7 +82,7 @@ module _ (t : Seen) where
 
   lock_clear_law :
       (m x : ℕ) → ltb t.locks max_locks ≡ true →
-      is_clear (fault coded t (item LockLine (m ∷ x ∷ [])))
+      is_ok (fault coded t (item LockLine (m ∷ x ∷ [])))
       ≡ (follows t.phase LockLine && (ranged m max_m x max_length && (leb 1 (get_or t.owners m 0) && reached t (get_or t.owners m 0) m)))
   unfolding written shape ruled lock_fault
   lock_clear_law m x h =
@@ -95,7 +92,7 @@ module _ (t : Seen) where
       fault_clear (item LockLine (m ∷ x ∷ [])) (r && (o && a)) (λ k. ranged_digits m x max_m max_length (omega arith) (omega arith) (both_left r (o && a) k))
       (clear_next r Range _ (clear_next o Missing _ (clear_next a Outside _ (clear_last (ltb t.locks max_locks) TooMany ∙ h) ∙ and-true a)))
 
-  host_clear : (v : ℕ) → ltb t.tasks max_tasks ≡ true → is_clear (host_fault t v) ≡ (leb 1 (get_or t.guests v 0) && eqb (get_or t.guests v 0) t.guest)
+  host_clear : (v : ℕ) → ltb t.tasks max_tasks ≡ true → is_ok (host_fault t v) ≡ (leb 1 (get_or t.guests v 0) && eqb (get_or t.guests v 0) t.guest)
   unfolding host_fault
   host_clear v h =
       let k : Bool = leb 1 (get_or t.guests v 0) in
@@ -104,7 +101,7 @@ module _ (t : Seen) where
 
   task_clear_law :
       (v n p : ℕ) → ltb t.tasks max_tasks ≡ true →
-      is_clear (fault coded t (item TaskLine (v ∷ n ∷ p ∷ [])))
+      is_ok (fault coded t (item TaskLine (v ∷ n ∷ p ∷ [])))
       ≡ (follows t.phase TaskLine
       && ((within v 1 max_v && ranged n max_n p max_period)
       && (rises t.v t.n v n && (leb 1 (get_or t.guests v 0) && eqb (get_or t.guests v 0) t.guest))))
@@ -175,8 +172,8 @@ module _ (s : Seen) (t : List ℕ) (i : ℕ) where
   rest_fed ok q g w k ts ls e h l =
       let v : ℕ = cell t task_width i 0 in
       let n : ℕ = cell t task_width i 1 in
-      let a : Bool = is_clear (fault coded (placed q s g w k ts ls) (item TaskLine (v ∷ n ∷ cell t task_width i 2 ∷ []))) in
-      let b : Bool = is_clear (fault coded (placed 8 s g v n (bump ts) 0) (run_item (cell t task_width i 3))) in
+      let a : Bool = is_ok (fault coded (placed q s g w k ts ls) (item TaskLine (v ∷ n ∷ cell t task_width i 2 ∷ []))) in
+      let b : Bool = is_ok (fault coded (placed 8 s g v n (bump ts) 0) (run_item (cell t task_width i 3))) in
       let c : Bool = locks g v (cell t task_width i 4) in
       locks_fed ((ok && a) && b) g v n (bump ts) (cell t task_width i 4) l
       ∙ ap₂ (λ x y. after x 7 s g v n y (cell t task_width i 4))
@@ -195,7 +192,7 @@ module _ (s : Seen) (t : List ℕ) (i : ℕ) where
       ≡ task (ok && (follows q GuestLine && (guest_clear s.hosted f g && rest g 0 0))) g (suc ts)
   unfolding feeds feed placed seen_by phase
   first_fed ok q f g w k ts ls h l =
-      let a : Bool = is_clear (fault coded (placed q s f w k ts ls) (item GuestLine (g ∷ []))) in
+      let a : Bool = is_ok (fault coded (placed q s f w k ts ls) (item GuestLine (g ∷ []))) in
       let c : Bool = rest g 0 0 in
       rest_fed (ok && a) 6 g 0 0 ts ls refl h l
       ∙ ap (λ x. task x g (suc ts))
@@ -290,7 +287,7 @@ module _ (r : Run) (vs : List Vcpu) (t : List ℕ) where
   end_clear : (q : Run) → passing (feed q (item EndLine [])) ≡ (q.ok && eqb q.seen.phase 7)
   unfolding feed fault follows written shape ruled seen_by placed phase
   end_clear q =
-      and-true _ ∙ ap (λ b. q.ok && b) (clear_unless (eqb q.seen.phase 7) Shape (unless true Number Clear) ∙ (unfold unless in and-true (eqb q.seen.phase 7)))
+      and-true _ ∙ ap (λ b. q.ok && b) (clear_unless (eqb q.seen.phase 7) Shape (unless true Number (Ok tt)) ∙ (unfold unless in and-true (eqb q.seen.phase 7)))
 
   pub tasks_clean :
       Bare r → (m : ℕ) → m ≤ max_tasks → ((i : ℕ) → i < m → cell t task_width i 4 ≤ max_locks) →

@@ -30,11 +30,12 @@ struct Run {
 }
 
 // After one item more.
+#[tactic(auto, unfolding(crate::specs::Feed::feed))]
 fn fed(run: Run, kind: Kind, a: u64, b: u64, c: u64, d: u64, e: u64) -> Run
     ensures { result ≡ feed.feed run (item kind a b c d e) }
 {
     let seen = run.seen;
-    let ok = run.ok & plan_tables::is_clear(fault_of(seen, kind, a, b, c, d, e));
+    let ok = run.ok & fault_of(seen, kind, a, b, c, d, e).is_ok();
     let next = seen_after(seen, kind, a, b, c, d, e);
     Run { ok: ok, seen: next }
 }
@@ -101,10 +102,8 @@ fn fed_vcpus(run: Run, t: &[u64], n: usize) -> Run
     ensures { result ≡ feed.feeds run (feed.lined n (feed.vcpu_lines t.now)) }
 {
     let mut s = run;
-    let mut i = 0;
-    while i < n {
+    for i in 0..n {
         s = fed_vcpu(s, t, i);
-        i += 1;
     }
     s
 }
@@ -115,10 +114,8 @@ fn fed_mutexes(run: Run, t: &[u64], n: usize) -> Run
     ensures { result ≡ feed.feeds run (feed.lined n (feed.mutex_lines t.now)) }
 {
     let mut s = run;
-    let mut i = 0;
-    while i < n {
+    for i in 0..n {
         s = fed_mutex(s, t, i);
-        i += 1;
     }
     s
 }
@@ -129,10 +126,8 @@ fn fed_opens(run: Run, t: &[u64], n: usize) -> Run
     ensures { result ≡ feed.feeds run (feed.lined n (feed.open_lines t.now)) }
 {
     let mut s = run;
-    let mut i = 0;
-    while i < n {
+    for i in 0..n {
         s = fed_open(s, t, i);
-        i += 1;
     }
     s
 }

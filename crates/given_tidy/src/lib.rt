@@ -29,13 +29,11 @@ fn guest_in(t: &[u64], n: usize, v: u64) -> u64
     requires { n ≤ tests.most_rows }
     ensures { result ≡ tables.guest_for (rows n (layout.vcpu_row t.now)) v }
 {
-    let mut i = 0;
-    while i < n {
+    for i in 0..n {
         let guest = cell(t, VCPU_WIDTH, i, 1);
         if cell(t, VCPU_WIDTH, i, 0) == v {
             return guest;
         }
-        i += 1;
     }
     0
 }
@@ -44,7 +42,7 @@ fn guest_in(t: &[u64], n: usize, v: u64) -> u64
 pub fn prior(i: usize) -> usize
     ensures { result ≡ i - 1 }
 {
-    if i == 0 { 0 } else { i - 1 }
+    i.saturating_sub(1)
 }
 
 // The guest of task i, where `last` is that of the task before it, 0 before the first: the VCPUs are searched only for another one than the task before has.
@@ -74,13 +72,11 @@ fn zero_from(t: &[u64], i: usize, c: usize) -> bool
     ensures { result ≡ tables.zero_from t.now i c }
 {
     let n = TASK_WIDTH - c;
-    let mut j = 0;
-    while j < n {
+    for j in 0..n {
         let zero = cell(t, TASK_WIDTH, i, c + j) == 0;
         if !zero {
             return false;
         }
-        j += 1;
     }
     true
 }
@@ -103,13 +99,11 @@ pub fn all_tidy(t: &[u64], n: usize) -> bool
     requires { n ≤ tests.most_rows }
     ensures { result ≡ tests.all_tidy t.now n }
 {
-    let mut i = 0;
-    while i < n {
+    for i in 0..n {
         let one = tidy(t, i);
         if !one {
             return false;
         }
-        i += 1;
     }
     true
 }

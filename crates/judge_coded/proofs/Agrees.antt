@@ -1,9 +1,8 @@
 -- THE JUDGE IN CODE AGREES WITH THE RULES: on the fault of every item, on every byte string, and on every list of items.
-use Rattle.std.specs.Prelude.{ℕ, zero, suc, ◌+◌, ◌≡◌, refl, List, ◌&&◌, ◌↔◌, eqb, leb, get_or, replicate}
+use Rattle.std.specs.Prelude.{ℕ, zero, suc, ◌+◌, ◌≡◌, refl, List, ◌&&◌, ◌↔◌, eqb, leb, get_or, replicate, Ok}
 use Rattle.std.proofs.Common.{ap, ap₂, sym}
 use Rattle.laws.specs.Sums.{any}
 use Rattle.plan.specs.Limits.{max_v, max_guest, max_m}
-use Rattle.plan.specs.declared.Fault.TheVariants.{Clear}
 use Rattle.plan.specs.declared.Refusal.{Refusal}
 use Rattle.plan.specs.declared.Refusal.TheVariants.{Shape, Number}
 use Rattle.plan.specs.Refusals.{unless}
@@ -66,7 +65,7 @@ same_fault t s r i =
 pub same_field : (t : Known) (s : Seen) → Same t s → (i : Item) (x : Refusal) → rules.field t i x ≡ coded.field s i x
 same_field t s r i x = ap (λ g. field_of g i.kind i.nums x) (r.mutexes.is_global_law (head_or i.nums))
 
-pub same_next : (t : Known) (s : Seen) → Same t s → (i : Item) → fault rules t i ≡ Clear → Same (rules.next t i) (coded.next s i)
+pub same_next : (t : Known) (s : Seen) → Same t s → (i : Item) → fault rules t i ≡ Ok tt → Same (rules.next t i) (coded.next s i)
 unfolding fault
 same_next t s r i h =
     same_learn (phase i.kind) r i.kind i.nums (clear_rest _ _ _ (clear_rest _ _ _ h))

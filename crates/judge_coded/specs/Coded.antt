@@ -1,10 +1,8 @@
 -- The judge that code keeps: numbers by place where the rules of `plan` keep rows of tables.
-use Rattle.std.specs.Prelude.{ℕ, ◌+◌, ◌*◌, ◌-◌, List, Bool, true, cond, ◌&&◌, ◌||◌, eqb, leb, ltb, get_or, set, replicate}
+use Rattle.std.specs.Prelude.{ℕ, ◌+◌, ◌*◌, ◌-◌, List, Bool, true, cond, ◌&&◌, ◌||◌, eqb, leb, ltb, get_or, set, replicate, Ok}
 use Rattle.plan.specs.Limits.{max_v, max_guest, max_m, max_n, max_period, max_length, max_tasks, max_locks}
-use Rattle.plan.specs.declared.Fault.{Fault}
-use Rattle.plan.specs.declared.Fault.TheVariants.{Clear}
 use Rattle.plan.specs.declared.Refusal.TheVariants.{Range, Order, Missing, Outside, TooMany}
-use Rattle.plan.specs.Refusals.{unless}
+use Rattle.plan.specs.Refusals.{unless, Fault}
 use Rattle.plan.specs.declared.Kind.{Kind}
 use Rattle.plan.specs.declared.Kind.TheVariants.{PlanLine, PolicyPO, PolicyPN, PolicyDO, PolicyDN, VcpuLine, MutexG, MutexL, OpenLine, GuestLine, TaskLine, RunLine, LockLine, EndLine, AskLine, FreeLine, UseLine, TopLine, ShowLine}
 use Rattle.plan.specs.Line.{Item, head_or, nums_of}
@@ -66,33 +64,33 @@ bump n = cond (ltb n max_tasks) (n + 1) n
 
 -- WHAT IS WRONG with a line of each kind that is allowed here and whose numbers are written as they should be
 unfoldable pub vcpu_fault : Seen → ℕ → ℕ → ℕ → ℕ → ℕ → Fault
-vcpu_fault t v g c b p = unless (vcpu_fits (record { v = v; guest = g; core = c; budget = b; period = p })) Range (unless (ltb t.vcpu v) Order Clear)
+vcpu_fault t v g c b p = unless (vcpu_fits (record { v = v; guest = g; core = c; budget = b; period = p })) Range (unless (ltb t.vcpu v) Order (Ok tt))
 
 -- a mutex of VCPU v, declared or not
 unfoldable pub mutex_fault : Seen → ℕ → ℕ → Bool → Fault
 mutex_fault t m v declared =
-    unless (ranged m max_m v max_v) Range (unless (ltb t.mutex m) Order (unless declared Missing Clear))
+    unless (ranged m max_m v max_v) Range (unless (ltb t.mutex m) Order (unless declared Missing (Ok tt)))
 
 unfoldable pub open_fault : Seen → ℕ → ℕ → Fault
 open_fault t m g =
     unless (ranged m max_m g max_guest) Range
     (unless (rises t.shared t.sharer m g) Order
-    (unless (eqb (get_or t.owners m 0) global && eqb (get_or t.hosted g 0) 1) Missing Clear))
+    (unless (eqb (get_or t.owners m 0) global && eqb (get_or t.hosted g 0) 1) Missing (Ok tt)))
 
 unfoldable pub guest_fault : Seen → ℕ → Fault
-guest_fault t g = unless (within g 1 max_guest) Range (unless (ltb t.guest g) Order (unless (eqb (get_or t.hosted g 0) 1) Missing Clear))
+guest_fault t g = unless (within g 1 max_guest) Range (unless (ltb t.guest g) Order (unless (eqb (get_or t.hosted g 0) 1) Missing (Ok tt)))
 
 -- a task of VCPU v, by what is declared and how many there are
 unfoldable pub host_fault : Seen → ℕ → Fault
 host_fault t v =
     unless (leb 1 (get_or t.guests v 0)) Missing
-    (unless (leb 1 (get_or t.guests v 0) && eqb (get_or t.guests v 0) t.guest) Outside (unless (ltb t.tasks max_tasks) TooMany Clear))
+    (unless (leb 1 (get_or t.guests v 0) && eqb (get_or t.guests v 0) t.guest) Outside (unless (ltb t.tasks max_tasks) TooMany (Ok tt)))
 
 unfoldable pub task_fault : Seen → ℕ → ℕ → ℕ → Fault
 task_fault t v n p = unless (within v 1 max_v && ranged n max_n p max_period) Range (unless (rises t.v t.n v n) Order (host_fault t v))
 
 unfoldable pub run_fault : ℕ → Fault
-run_fault x = unless (within x 0 max_length) Range Clear
+run_fault x = unless (within x 0 max_length) Range (Ok tt)
 
 -- may a task of VCPU v of guest g lock m, with the openings ps: is it local to v, or a global one opened to the guest?
 abbrev pub reached_by : List ℕ → ℕ → ℕ → ℕ → ℕ → Bool
@@ -106,14 +104,14 @@ unfoldable pub lock_fault : Seen → ℕ → ℕ → Fault
 lock_fault t m x =
     unless (ranged m max_m x max_length) Range
     (unless (leb 1 (get_or t.owners m 0)) Missing
-    (unless (reached t (get_or t.owners m 0) m) Outside (unless (ltb t.locks max_locks) TooMany Clear)))
+    (unless (reached t (get_or t.owners m 0) m) Outside (unless (ltb t.locks max_locks) TooMany (Ok tt))))
 
 unfoldable pub ruled : Seen → Kind → List ℕ → Fault
-ruled t PlanLine ns = Clear
-ruled t PolicyPO ns = Clear
-ruled t PolicyPN ns = Clear
-ruled t PolicyDO ns = Clear
-ruled t PolicyDN ns = Clear
+ruled t PlanLine ns = Ok tt
+ruled t PolicyPO ns = Ok tt
+ruled t PolicyPN ns = Ok tt
+ruled t PolicyDO ns = Ok tt
+ruled t PolicyDN ns = Ok tt
 ruled t VcpuLine ns = vcpu_fault t (nth 0 ns) (nth 1 ns) (nth 2 ns) (nth 3 ns) (nth 4 ns)
 ruled t MutexG ns = mutex_fault t (nth 0 ns) 1 true
 ruled t MutexL ns = mutex_fault t (nth 0 ns) (nth 1 ns) (leb 1 (get_or t.guests (nth 1 ns) 0))
@@ -122,12 +120,12 @@ ruled t GuestLine ns = guest_fault t (nth 0 ns)
 ruled t TaskLine ns = task_fault t (nth 0 ns) (nth 1 ns) (nth 2 ns)
 ruled t RunLine ns = run_fault (nth 0 ns)
 ruled t LockLine ns = lock_fault t (nth 0 ns) (nth 1 ns)
-ruled t EndLine ns = Clear
-ruled t AskLine ns = Clear
-ruled t FreeLine ns = Clear
-ruled t UseLine ns = Clear
-ruled t TopLine ns = Clear
-ruled t ShowLine ns = Clear
+ruled t EndLine ns = Ok tt
+ruled t AskLine ns = Ok tt
+ruled t FreeLine ns = Ok tt
+ruled t UseLine ns = Ok tt
+ruled t TopLine ns = Ok tt
+ruled t ShowLine ns = Ok tt
 
 -- WHAT A LINE ADDS, with q the phase after it
 unfoldable pub after_vcpu : ℕ → Seen → ℕ → ℕ → Seen

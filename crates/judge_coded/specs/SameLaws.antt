@@ -1,5 +1,5 @@
 -- Where what is known and what is seen are the same, the two judges say the same of a line, and after a line with no fault they are the same again.
-use Rattle.std.specs.Prelude.{ℕ, ◌+◌, ◌≤◌, ◌<◌, ◌≡◌, List, ◌&&◌, ltb}
+use Rattle.std.specs.Prelude.{ℕ, ◌+◌, ◌≤◌, ◌<◌, ◌≡◌, List, ◌&&◌, ltb, Ok}
 use Rattle.std.proofs.Math.Path.{refl, sym}
 use Rattle.std.proofs.Common.{ap, ◌∙◌, arith}
 use Rattle.std.proofs.Math.Bool.{true, and-true}
@@ -7,7 +7,6 @@ use Rattle.std.proofs.Math.Dec.{eqb}
 use borrow.Author.Tests.{ltb-true, lt-ltb, ne_eqb}
 use Rattle.laws.specs.BoolLaws.{both_left, both_right}
 use Rattle.plan.specs.Limits.{max_v, max_guest, max_core, max_m, max_period, max_tasks, max_locks}
-use Rattle.plan.specs.declared.Fault.TheVariants.{Clear}
 use Rattle.plan.specs.declared.Refusal.TheVariants.{Range, Order}
 use Rattle.plan.specs.Refusals.{unless}
 use Rattle.plan.specs.declared.Kind.{Kind}
@@ -23,7 +22,7 @@ use Rattle.judge_coded.specs.TableLaws.{byte_small, vcpus_more, mutexes_more, op
 
 -- THE SAME IS WRONG
 
-global_rule : (s : Seen) (m : ℕ) → mutex_fault s m 1 true ≡ unless (within m 1 max_m) Range (unless (ltb s.mutex m) Order Clear)
+global_rule : (s : Seen) (m : ℕ) → mutex_fault s m 1 true ≡ unless (within m 1 max_m) Range (unless (ltb s.mutex m) Order (Ok tt))
 unfolding mutex_fault unless
 global_rule s m = rw (and-true (within m 1 max_m))
 
@@ -75,7 +74,7 @@ module _ (q : ℕ) {t : Known} {s : Seen} (r : Same t s) where
         locks_is = e;
       }
 
-  after_vcpu_law : (ns : List ℕ) → rule t VcpuLine ns ≡ Clear → Same (learn q t VcpuLine ns) (seen_by q s VcpuLine ns)
+  after_vcpu_law : (ns : List ℕ) → rule t VcpuLine ns ≡ Ok tt → Same (learn q t VcpuLine ns) (seen_by q s VcpuLine ns)
   unfolding rule tests_of vcpu_fits learn seen_by after_vcpu
   after_vcpu_law ns h =
       let x = vcpu_of ns in
@@ -113,14 +112,14 @@ module _ (q : ℕ) {t : Known} {s : Seen} (r : Same t s) where
         locks_is = r.locks_is;
       }
 
-  after_global : (ns : List ℕ) → rule t MutexG ns ≡ Clear → Same (learn q t MutexG ns) (seen_by q s MutexG ns)
+  after_global : (ns : List ℕ) → rule t MutexG ns ≡ Ok tt → Same (learn q t MutexG ns) (seen_by q s MutexG ns)
   unfolding rule tests_of learn seen_by
   after_global ns h =
       let a = in_range_law (nth 0 ns) 1 max_m (clear_test _ _ _ h) in
       let l : s.mutex < nth 0 ns = ltb-true s.mutex (nth 0 ns) (rw r.mutexes.top_is at (clear_test _ _ _ (clear_rest _ _ _ h))) in
       mutex_after (nth 0 ns) global Global a.1 l (omega arith) (omega arith) refl (λ v. refl)
 
-  after_local : (ns : List ℕ) → rule t MutexL ns ≡ Clear → Same (learn q t MutexL ns) (seen_by q s MutexL ns)
+  after_local : (ns : List ℕ) → rule t MutexL ns ≡ Ok tt → Same (learn q t MutexL ns) (seen_by q s MutexL ns)
   unfolding rule tests_of learn seen_by
   after_local ns h =
       let w = nth 1 ns in
@@ -131,7 +130,7 @@ module _ (q : ℕ) {t : Known} {s : Seen} (r : Same t s) where
       let l : s.mutex < nth 0 ns = ltb-true s.mutex (nth 0 ns) (rw r.mutexes.top_is at (clear_test _ _ _ (clear_rest _ _ _ h))) in
       mutex_after (nth 0 ns) w (Local w) a.1 l b.0 (omega arith) (sym (ne_eqb w global (λ e. omega arith))) (λ v. sym (ap (λ x. x && eqb w v) ok))
 
-  after_open_law : (ns : List ℕ) → rule t OpenLine ns ≡ Clear → Same (learn q t OpenLine ns) (seen_by q s OpenLine ns)
+  after_open_law : (ns : List ℕ) → rule t OpenLine ns ≡ Ok tt → Same (learn q t OpenLine ns) (seen_by q s OpenLine ns)
   unfolding rule tests_of learn seen_by after_open
   after_open_law ns h =
       let x : Open = record { m = nth 0 ns; guest = nth 1 ns } in
@@ -154,19 +153,19 @@ module _ (q : ℕ) {t : Known} {s : Seen} (r : Same t s) where
   more_is : {m n : ℕ} → m ≡ n → m < max_tasks → m + 1 ≡ bump n
   more_is {m} {n} e l = ap (λ x. x + 1) e ∙ sym (bump_one n (omega arith))
 
-  after_task : (ns : List ℕ) → rule t TaskLine ns ≡ Clear → Same (learn q t TaskLine ns) (seen_by q s TaskLine ns)
+  after_task : (ns : List ℕ) → rule t TaskLine ns ≡ Ok tt → Same (learn q t TaskLine ns) (seen_by q s TaskLine ns)
   unfolding rule tests_of learn seen_by
   after_task ns h =
       let few = clear_test _ _ _ (clear_rest _ _ _ (clear_rest _ _ _ (clear_rest _ _ _ (clear_rest _ _ _ h)))) in
       placed_same r.guest_is refl refl (more_is r.tasks_is (ltb-true t.tasks max_tasks few)) refl
 
-  after_lock : (ns : List ℕ) → rule t LockLine ns ≡ Clear → Same (learn q t LockLine ns) (seen_by q s LockLine ns)
+  after_lock : (ns : List ℕ) → rule t LockLine ns ≡ Ok tt → Same (learn q t LockLine ns) (seen_by q s LockLine ns)
   unfolding rule tests_of learn seen_by
   after_lock ns h =
       let few : t.locks < max_locks = ltb-true t.locks max_locks (clear_test _ _ _ (clear_rest _ _ _ (clear_rest _ _ _ (clear_rest _ _ _ h)))) in
       placed_same r.guest_is r.v_is r.n_is r.tasks_is (more_is r.locks_is (omega arith))
 
-  pub same_learn : (k : Kind) (ns : List ℕ) → rule t k ns ≡ Clear → Same (learn q t k ns) (seen_by q s k ns)
+  pub same_learn : (k : Kind) (ns : List ℕ) → rule t k ns ≡ Ok tt → Same (learn q t k ns) (seen_by q s k ns)
   unfolding learn seen_by
   same_learn PlanLine ns h = still
   same_learn PolicyPO ns h = still

@@ -5,7 +5,7 @@ ghost use Rattle.std.specs.Prelude.{◌≡◌, get_or};
 ghost use Rattle.judge_coded.specs.Coded as coded;
 
 use judge_coded::{GLOBAL, Seen, slot};
-use plan::{Fault, MAX_TASKS, MAX_V, Refusal, unless, within};
+use plan::{MAX_TASKS, MAX_V, Refusal, ensure, within};
 
 // A byte as a number.
 fn wide(x: u8) -> u64
@@ -18,8 +18,7 @@ fn wide(x: u8) -> u64
 pub fn at(s: &[u8], i: u64) -> u64
     ensures { result ≡ get_or s.now i 0 }
 {
-    let k = i as usize;
-    if k < s.len() { wide(s[k]) } else { 0 }
+    wide(s.get(i as usize).copied().unwrap_or(0))
 }
 
 // May a task of VCPU v of this guest lock m: is it local to v, or a global one opened to the guest?
@@ -32,11 +31,12 @@ pub fn reached(opens: &[u8], guest: u64, v: u64, owner: u64, m: u64) -> bool
 }
 
 // A task of VCPU v, by what is declared and how many there are.
-pub fn host_fault(t: Seen, v: u64) -> Fault
+#[tactic(auto, unfolding(plan::specs::Refusals::unless, judge_coded::specs::Coded::host_fault))]
+pub fn host_fault(t: Seen, v: u64) -> Result<(), Refusal>
     ensures { result ≡ coded.host_fault t v }
 {
     let host = at(&t.guests, v);
-    let few = unless(t.tasks < MAX_TASKS, Refusal::TooMany, Fault::Clear);
-    let own = unless((1 <= host) & (host == t.guest), Refusal::Outside, few);
-    unless(1 <= host, Refusal::Missing, own)
+    ensure(1 <= host, Refusal::Missing)?;
+    ensure(host == t.guest, Refusal::Outside)?;
+    ensure(t.tasks < MAX_TASKS, Refusal::TooMany)
 }

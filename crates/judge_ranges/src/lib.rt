@@ -45,15 +45,11 @@ fn vcpu_out(v: u64, guest: u64, core: u64, budget: u64, period: u64) -> u64
 }
 
 // Range: the leftmost field whose number is out of its range.
+#[tactic(auto, unfolding(plan::specs::Fields::first_out, plan::specs::Fields::ranges, plan::specs::Line::nums_of, plan::specs::Line::size, plan::specs::Line::shape))]
 pub fn range_of(kind: Kind, a: u64, b: u64, c: u64, d: u64, e: u64) -> u64
     ensures { result ≡ fields.first_out 1 (shape kind) (fields.ranges kind (nums_of kind a b c d e)) }
 {
     match kind {
-        Kind::PlanLine => 0,
-        Kind::PolicyPO => 0,
-        Kind::PolicyPN => 0,
-        Kind::PolicyDO => 0,
-        Kind::PolicyDN => 0,
         Kind::VcpuLine => vcpu_out(a, b, c, d, e),
         Kind::MutexG => out(within(a, 1, MAX_M), 2, 0),
         Kind::MutexL => pair_out(a, MAX_M, b, MAX_V, 4),
@@ -62,11 +58,6 @@ pub fn range_of(kind: Kind, a: u64, b: u64, c: u64, d: u64, e: u64) -> u64
         Kind::TaskLine => task_out(a, b, c),
         Kind::RunLine => out(within(a, 0, MAX_LENGTH), 2, 0),
         Kind::LockLine => pair_out(a, MAX_M, b, MAX_LENGTH, 3),
-        Kind::EndLine => 0,
-        Kind::AskLine => 0,
-        Kind::FreeLine => 0,
-        Kind::UseLine => 0,
-        Kind::TopLine => 0,
-        Kind::ShowLine => 0,
+        _ => 0,
     }
 }

@@ -3,12 +3,8 @@ use Prim.Native.Nat.{ℕ}
 use mathlib.Core.Path.{◌≡◌}
 use mathlib.Core.List.{List}
 use lib.ListN.{set}
-use Rattle.plan.specs.declared.Kind.{Kind}
-use Rattle.plan.specs.Line.{nums_of}
-use Rattle.plan.specs.Rules.{phase}
 use Rattle.judge_coded.specs.declared.Seen.{Seen}
-use Rattle.judge_coded.specs.Coded.{byte, slot, seen, after_vcpu, after_mutex, after_open, seen_by}
-use Rattle.judge_coded.specs.KindLaws.{told}
+use Rattle.judge_coded.specs.Coded.{byte, slot, seen, after_vcpu, after_mutex, after_open}
 
 -- what is seen after a VCPU, a mutex and an opening, from the tables written
 pub vcpu_told :
@@ -28,9 +24,3 @@ pub open_told :
     seen q t.guests t.vcpu t.hosted t.owners t.mutex ps m g t.guest t.v t.n t.tasks t.locks ≡ after_open q t m g
 unfolding after_open byte
 open_told q t m g e h = rw (h, e)
-
--- what is seen after a line, at the phase of its kind
-pub seen_told :
-    (t : Seen) (a b c d e : ℕ) {p : ℕ} {k q : Kind} {r : Seen} → p ≡ phase k → k ≡ q → r ≡ seen_by p t q (nums_of q a b c d e) →
-    r ≡ seen_by (phase k) t k (nums_of k a b c d e)
-seen_told t a b c d e {k = k} f g h = told (λ x. seen_by (phase k) t x (nums_of x a b c d e)) g (rw f at h)

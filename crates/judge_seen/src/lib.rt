@@ -13,7 +13,7 @@ use plan::{ENDED, Kind, MAX_TASKS};
 fn byte(x: u64) -> u8
     ensures { result ≡ coded.byte x }
 {
-    if x < 256 { x as u8 } else { 0 }
+    u8::try_from(x).unwrap_or(0)
 }
 
 // Writes x at i, if there is such a place.
@@ -27,29 +27,22 @@ fn put(d: &mut [u8], i: u64, x: u64)
 }
 
 // The number by which a line's place is told (specs/Rules of `plan`).
+#[tactic(auto, unfolding(plan::specs::Rules::phase))]
 fn phase_of(kind: Kind) -> u64
     ensures { result ≡ rules.phase kind }
 {
     match kind {
         Kind::PlanLine => 1,
-        Kind::PolicyPO => 2,
-        Kind::PolicyPN => 2,
-        Kind::PolicyDO => 2,
-        Kind::PolicyDN => 2,
+        Kind::PolicyPO | Kind::PolicyPN | Kind::PolicyDO | Kind::PolicyDN => 2,
         Kind::VcpuLine => 3,
-        Kind::MutexG => 4,
-        Kind::MutexL => 4,
+        Kind::MutexG | Kind::MutexL => 4,
         Kind::OpenLine => 5,
         Kind::GuestLine => 6,
-        Kind::TaskLine => 8,
         Kind::RunLine => 7,
+        Kind::TaskLine => 8,
         Kind::LockLine => 9,
         Kind::EndLine => 10,
-        Kind::AskLine => 11,
-        Kind::FreeLine => 11,
-        Kind::UseLine => 11,
-        Kind::TopLine => 11,
-        Kind::ShowLine => 11,
+        Kind::AskLine | Kind::FreeLine | Kind::UseLine | Kind::TopLine | Kind::ShowLine => 11,
     }
 }
 
@@ -116,37 +109,20 @@ fn placed(t: Seen, q: u64, guest: u64, v: u64, n: u64, tasks: u64, locks: u64) -
 }
 
 // What is seen after an item that has no fault.
+#[tactic(auto, unfolding(judge_coded::specs::Coded::seen_by, plan::specs::Line::nums_of, plan::specs::Line::size, plan::specs::Line::shape))]
 pub fn seen_after(t: Seen, kind: Kind, a: u64, b: u64, c: u64, d: u64, e: u64) -> Seen
     ensures { result ≡ (coded.coded).next t (item kind a b c d e) }
 {
     let q = phase_of(kind);
-    let guest = t.guest;
-    let v = t.v;
-    let n = t.n;
-    let tasks = t.tasks;
-    let locks = t.locks;
-    let more = bump(tasks);
-    let held = bump(locks);
     match kind {
-        Kind::PlanLine => placed(t, q, guest, v, n, tasks, locks),
-        Kind::PolicyPO => placed(t, q, guest, v, n, tasks, locks),
-        Kind::PolicyPN => placed(t, q, guest, v, n, tasks, locks),
-        Kind::PolicyDO => placed(t, q, guest, v, n, tasks, locks),
-        Kind::PolicyDN => placed(t, q, guest, v, n, tasks, locks),
         Kind::VcpuLine => after_vcpu(t, q, a, b),
         Kind::MutexG => after_mutex(t, q, a, GLOBAL),
         Kind::MutexL => after_mutex(t, q, a, b),
         Kind::OpenLine => after_open(t, q, a, b),
-        Kind::GuestLine => placed(t, q, a, 0, 0, tasks, locks),
-        Kind::TaskLine => placed(t, q, guest, a, b, more, 0),
-        Kind::RunLine => placed(t, q, guest, v, n, tasks, locks),
-        Kind::LockLine => placed(t, q, guest, v, n, tasks, held),
-        Kind::EndLine => placed(t, q, guest, v, n, tasks, locks),
-        Kind::AskLine => placed(t, q, guest, v, n, tasks, locks),
-        Kind::FreeLine => placed(t, q, guest, v, n, tasks, locks),
-        Kind::UseLine => placed(t, q, guest, v, n, tasks, locks),
-        Kind::TopLine => placed(t, q, guest, v, n, tasks, locks),
-        Kind::ShowLine => placed(t, q, guest, v, n, tasks, locks),
+        Kind::GuestLine => placed(t, q, a, 0, 0, t.tasks, t.locks),
+        Kind::TaskLine => placed(t, q, t.guest, a, b, bump(t.tasks), 0),
+        Kind::LockLine => placed(t, q, t.guest, t.v, t.n, t.tasks, bump(t.locks)),
+        _ => placed(t, q, t.guest, t.v, t.n, t.tasks, t.locks),
     }
 }
 

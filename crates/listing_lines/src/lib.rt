@@ -13,13 +13,6 @@ use figures::TaskAnswer;
 use plan::{Complaint, Refusal};
 use search::Answer;
 
-// The answer of a call that writes a text into a lent buffer: its size, or a refusal.
-#[derive(Clone, Copy)]
-pub enum TextAnswer {
-    Written(usize),
-    Refused(Refusal),
-}
-
 // An answer, taken apart: its kind (0 late, 1 fits, 2 nowait, 3 held), its ticks, and its rounds.
 #[derive(Clone, Copy)]
 struct Parts {

@@ -1,9 +1,8 @@
 -- Every listing is short, and so is every verdict.
 use Prim.Native.Nat.{ℕ, suc, ◌+◌, ◌*◌, ◌≤◌, ◌<◌}
-use Rattle.std.specs.Prelude.{◌≡◌, refl, Bool, cond, ◌&&◌, eqb, ltb}
+use Rattle.std.specs.Prelude.{◌≡◌, refl, Bool, cond, ◌&&◌, eqb, ltb, Option, Ok, Err}
 use Rattle.std.proofs.Math.Bool.{true, false}
 use mathlib.Core.List.{List, [], ◌∷◌, ◌++◌}
-use Rattle.std.proofs.Math.Option.{Option}
 use Rattle.std.proofs.Common.{le_trans, ltb-false}
 use native.Mathlib.Omega.{arith}
 use Rattle.std.proofs.Math.ListN.{length, length-append}
@@ -19,10 +18,8 @@ use Rattle.plan.specs.Limits.{max_v, max_n, max_period, max_tasks, max_locks, ma
 use Rattle.plan.specs.Line.{Item, w_one, item_of}
 use Rattle.plan.specs.declared.Refusal.{Refusal}
 use Rattle.plan.specs.declared.Refusal.TheVariants.{Shape, Number, Range, Order, Missing, Outside, TooMany, Room, Foreign, Unknown, Unlisted, Asleep, Busy, NotHolder, Supply}
-use Rattle.plan.specs.declared.Fault.{Fault}
-use Rattle.plan.specs.declared.Fault.TheVariants.{Clear, Bad}
 use Rattle.plan.specs.declared.Complaint.{Complaint}
-use Rattle.plan.specs.Refusals.{complaint, no_room, number_of}
+use Rattle.plan.specs.Refusals.{complaint, no_room, number_of, Fault}
 use Rattle.plan.specs.declared.Lock.{Lock}
 use Rattle.plan.specs.Plan.{Vcpu, Task, Plan}
 use Rattle.plan.specs.Reading.{Judge, Verdict, Faultless, FirstBad, fault_of, next_of, finish, onward, judge, Reading, Accepts, Refuses, answer, reading_by, rules, reading}
@@ -247,8 +244,8 @@ module _ (J : Judge) where
       go false = h
 
   onward_line : (t : J.Seen) (o : Option Item) (f : Fault) (n b : ℕ) (v : Verdict) → n ≤ b → Upto b v → Upto b (onward J t o f n v)
-  onward_line t o Clear n b v h k = k
-  onward_line t o (Bad r) n b v h k = h
+  onward_line t o (Ok tt) n b v h k = k
+  onward_line t o (Err r) n b v h k = h
 
   judge_line : (t : J.Seen) (n b : ℕ) (ls : List (List ℕ)) → n + length ls ≤ b → Upto b (judge J t n ls)
   unfolding judge

@@ -1,5 +1,5 @@
 -- Laws of places that are written one after the other.
-use Rattle.std.specs.Prelude.{ℕ, suc, ◌+◌, ◌≤◌, ◌<◌, ◌≡◌, refl, Bool, true, false, set}
+use Rattle.std.specs.Prelude.{ℕ, suc, ◌+◌, ◌-◌, ◌≤◌, ◌<◌, ◌≡◌, refl, Bool, true, false, set}
 use Rattle.std.proofs.Math.Path.{ap}
 use Rattle.std.proofs.Common.{ap₂, sym, ◌∙◌, le_antisymm, eq-or-lt_of_le, add-one, length-append}
 use Rattle.std.proofs.Math.Logic.{⊎_elim}
@@ -109,6 +109,17 @@ module _ {ts : List ℕ} {t : ℕ} {before : List ℕ} {k : ℕ} (grown more : �
 
   pub growing_all : {order : List ℕ} {e i : ℕ} → Growing ts t before k grown n order e i → n ≤ i → Added ts t (tasks_at ts before k) (grown n) order e
   growing_all h l = rw (le_antisymm l h.rounds) h.added
+
+  -- the same of a loop whose next round is m, from 1 to n, where x is added
+  module _ {m : ℕ} {x : List Task} (l : 1 ≤ m) (u : m ≤ n) (w : x ≡ more (m - 1)) where
+    pub growing_fits : {order : List ℕ} {e : ℕ} → Growing ts t before k grown n order e (m - 1) → k + length (grown n) ≤ most_tasks → e + length x ≤ most_tasks
+    growing_fits h r = rw w (growing_room h (omega arith) r)
+
+    pub growing_next : {order after : List ℕ} {e f : ℕ} → Growing ts t before k grown n order e (m - 1)
+        → Added ts t (tasks_at ts order e) x after f → Growing ts t before k grown n after f (m + 1 - 1)
+    growing_next h a =
+        let y : m + 1 - 1 ≡ m - 1 + 1 = omega arith in
+        rw y (growing_more h (omega arith) (rw w at a))
 
 -- ALL TASKS
 

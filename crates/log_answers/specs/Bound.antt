@@ -1,11 +1,10 @@
 -- No answers are longer than ten times the events: a refusal by 1 or 2 has 10 bytes and its line at least its LF;
 -- any other answer has at most 30, and its line a word of at least 3 bytes and its LF.
 use Prim.Native.Nat.{ℕ, zero, suc, ◌+◌, ◌-◌, ◌*◌, ◌≤◌, max}
-use Rattle.std.specs.Prelude.{◌≡◌, Bool, eqb, get_or, set}
+use Rattle.std.specs.Prelude.{◌≡◌, Bool, eqb, get_or, set, Option, Some, None, Ok, Err}
 use Rattle.std.proofs.Math.Path.{refl, ap}
 use Rattle.std.proofs.Common.{sym, ◌∙◌}
 use mathlib.Core.List.{List, [], ◌∷◌}
-use Rattle.std.proofs.Math.Option.{Option, some, none}
 use Rattle.std.proofs.Math.Bool.{true, false}
 use Rattle.std.proofs.lemmas.Bool.{false≢true}
 use native.Mathlib.Omega.{arith}
@@ -22,8 +21,7 @@ use Rattle.plan.specs.Limits.{max_v, most_n, max_period, max_length, most_tasks,
 use Rattle.plan.specs.declared.Kind.{Kind}
 use Rattle.plan.specs.declared.Kind.TheVariants.{PlanLine, PolicyPO, PolicyPN, PolicyDO, PolicyDN, VcpuLine, MutexG, MutexL, OpenLine, GuestLine, TaskLine, RunLine, LockLine, EndLine, AskLine, FreeLine, UseLine, TopLine, ShowLine}
 use Rattle.plan.specs.declared.Refusal.TheVariants.{Shape, Unknown}
-use Rattle.plan.specs.declared.Fault.{Fault}
-use Rattle.plan.specs.declared.Fault.TheVariants.{Clear, Bad}
+use Rattle.plan.specs.Refusals.{Fault}
 use Rattle.plan.specs.Line.{Form, Word, Item, shape, kinds, has_shape, item_of, written, w_ask, w_free, w_use, w_top, w_show}
 use Rattle.plan.specs.LineLaws.{kind_has}
 use Rattle.plan.specs.JudgeLaws.{clear_test}
@@ -179,13 +177,13 @@ module _ (F : Facts) where
     low = h;
   }
 
-  answered_fine : (b : Board) (f : Fault) (o : Outcome) → Low b → (f ≡ Clear → Fine o) → Fine (answered b f o)
-  answered_fine b Clear o h k = k refl
-  answered_fine b (Bad r) o h k = record { short = refused_short r; low = h }
+  answered_fine : (b : Board) (f : Fault) (o : Outcome) → Low b → (f ≡ Ok tt → Fine o) → Fine (answered b f o)
+  answered_fine b (Ok tt) o h k = k refl
+  answered_fine b (Err r) o h k = record { short = refused_short r; low = h }
 
-  show_clear : (v n : ℕ) → show_fault F v n ≡ Clear → F.has_task v n ≡ true
+  show_clear : (v n : ℕ) → show_fault F v n ≡ Ok tt → F.has_task v n ≡ true
   unfolding show_fault
-  show_clear v n e = clear_test (F.has_task v n) Unknown Clear e
+  show_clear v n e = clear_test (F.has_task v n) Unknown (Ok tt) e
 
   step_fine : Fair F → Small F → (b : Board) (e : Event) → Low b → Fine (step F b e)
   unfolding step
@@ -213,13 +211,13 @@ word_long : (w : List ℕ) (ps : List Form) (l : List ℕ) → has_shape (Word w
 word_long w ps l h = fields_long w ps (count tab l) l (ap (has_shape (Word w ∷ ps)) (sym (pieces_fields tab l)) ∙ h)
 
 abbrev is_some : Option Event → Bool
-is_some none = false
-is_some (some e) = true
+is_some None = false
+is_some (Some e) = true
 
-none_some : {e : Event} → none ≡ some e → ⊥
+none_some : {e : Event} → None ≡ Some e → ⊥
 none_some h = false≢true (ap is_some h)
 
-kind_long : (k : Kind) (ns : List ℕ) (e : Event) (l : List ℕ) → event_of k ns ≡ some e → has_shape (shape k) (pieces tab l) ≡ true → 3 ≤ length l
+kind_long : (k : Kind) (ns : List ℕ) (e : Event) (l : List ℕ) → event_of k ns ≡ Some e → has_shape (shape k) (pieces tab l) ≡ true → 3 ≤ length l
 unfolding event_of shape
 kind_long PlanLine ns e l h q = absurd (none_some h)
 kind_long PolicyPO ns e l h q = absurd (none_some h)
@@ -241,7 +239,7 @@ kind_long UseLine ns e l h q = let a = word_long w_use _ l q in omega arith
 kind_long TopLine ns e l h q = let a = word_long w_top _ l q in omega arith
 kind_long ShowLine ns e l h q = let a = word_long w_show _ l q in omega arith
 
-item_shape : (l : List ℕ) (i : Item) → item_of l ≡ some i → has_shape (shape i.kind) (pieces tab l) ≡ true
+item_shape : (l : List ℕ) (i : Item) → item_of l ≡ Some i → has_shape (shape i.kind) (pieces tab l) ≡ true
 unfolding said_of
 item_shape l i h = kind_has kinds (pieces tab l) i.kind (ap (λ s. s.found) (item_is l i h))
 
@@ -251,10 +249,10 @@ record Bounded (l : List ℕ) (o : Outcome) : Type 0 where
   low : Low o.board
 
 module _ (F : Facts) (f : Fair F) (s : Small F) where
-  event_bounded : (b : Board) (l : List ℕ) (ok : Bool) (o : Option Event) → ((e : Event) → o ≡ some e → 3 ≤ length l) → Low b → Bounded l (on_event F b ok o)
-  event_bounded b l ok none k h = record { size = let a = shape_ten in omega arith; low = h }
-  event_bounded b l false (some e) k h = record { size = let a = number_ten in omega arith; low = h }
-  event_bounded b l true (some e) k h =
+  event_bounded : (b : Board) (l : List ℕ) (ok : Bool) (o : Option Event) → ((e : Event) → o ≡ Some e → 3 ≤ length l) → Low b → Bounded l (on_event F b ok o)
+  event_bounded b l ok None k h = record { size = let a = shape_ten in omega arith; low = h }
+  event_bounded b l false (Some e) k h = record { size = let a = number_ten in omega arith; low = h }
+  event_bounded b l true (Some e) k h =
       let q = step_fine F f s b e h in
       let a = q.short in
       let c = k e refl in
@@ -265,8 +263,8 @@ module _ (F : Facts) (f : Fair F) (s : Small F) where
   line_bounded b l h = go (item_of l) refl
     where
       go : (i : Option Item) → item_of l ≡ i → Bounded l (on_item F b i)
-      go none e = record { size = let a = shape_ten in omega arith; low = h }
-      go (some i) e =
+      go None e = record { size = let a = shape_ten in omega arith; low = h }
+      go (Some i) e =
           event_bounded b l (written (shape i.kind) i.nums) (event_of i.kind i.nums) (λ x q. kind_long i.kind i.nums x l q (item_shape l i e)) h
 
   end_bounded : (k : ℕ) → length (end_text k) ≤ 10 * k

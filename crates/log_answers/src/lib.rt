@@ -4,26 +4,22 @@
 ghost use Rattle.std.specs.Prelude.{◌≡◌, ◌++◌, true, ◌+◌, ◌≤◌, length, take};
 ghost use Rattle.listing.specs.Listing.{line};
 ghost use Rattle.text_letters.specs.Wrote.{Wrote};
-ghost use Rattle.board_rules.specs.View.{facts_in};
+ghost use Rattle.board_rules.specs.PlanViews.{facts};
 ghost use Rattle.board_rules.specs.Settle.{Marked};
 ghost use Rattle.board_events.specs.Events.{answer_fields, replies_to};
 ghost use Rattle.log_replies.specs.Parts.{end_text};
 ghost use Rattle.log_answers.specs.Tells.{told_into, moving, Space, Adds};
 
-use board_rules::{Board, BoardAnswer};
-use plan::{LF, OverrunChoice, Policy};
+use board_rules::{Board, BoardAnswer, PlanView};
+use plan::LF;
 
 // Is the answer no refusal? After a refusal the board is as it was.
 fn moves(a: BoardAnswer) -> bool
     ensures { result ≡ moving a }
 {
     match a {
-        BoardAnswer::Granted => true,
-        BoardAnswer::Waits => true,
-        BoardAnswer::Freed(_) => true,
-        BoardAnswer::Left { b: _, o: _ } => true,
-        BoardAnswer::Shows { task: _, vcpu: _ } => true,
         BoardAnswer::Refused(_) => false,
+        _ => true,
     }
 }
 
@@ -59,18 +55,10 @@ fn tell_end(on: bool, out: &mut [u8], n: usize, k: usize) -> usize
 }
 
 // The answers to the events of src: written one after another where `on`, else only counted; returns their size.
-pub fn answers(
-    on: bool,
-    b: Board,
-    policy: Policy,
-    choice: OverrunChoice,
-    view: &[u64],
-    src: &[u8],
-    out: &mut [u8],
-) -> usize
-    requires { (length src.now ≤ 65536) × (on ≡ true → length (replies_to (facts_in policy choice view.now) b src.now) ≤ length out.old) × Marked (facts_in policy choice view.now) b }
-    ensures value { result ≡ length (replies_to (facts_in policy choice view.now) b src.now) }
-    ensures out_after { out.new ≡ told_into on (replies_to (facts_in policy choice view.now) b src.now) out.old }
+pub fn answers(on: bool, b: Board, plan: &PlanView, src: &[u8], out: &mut [u8]) -> usize
+    requires { (length src.now ≤ 65536) × (on ≡ true → length (replies_to (facts plan.now) b src.now) ≤ length out.old) × Marked (facts plan.now) b }
+    ensures value { result ≡ length (replies_to (facts plan.now) b src.now) }
+    ensures out_after { out.new ≡ told_into on (replies_to (facts plan.now) b src.now) out.old }
 {
     let mut t = b;
     let mut n: usize = 0;
@@ -82,7 +70,7 @@ pub fn answers(
             return tell_end(on, out, n, k);
         }
         let next = at + k + 1;
-        let o = log_lines::on_line(t, policy, choice, view, &rest[..k]);
+        let o = log_lines::on_line(t, plan, &rest[..k]);
         let a = o.answer;
         let m = tell(on, out, n, a);
         n = m;

@@ -1,9 +1,10 @@
 -- The answers to events by a view of the plan in tables that pass the test for 9 are the plan's.
-use Rattle.std.specs.Prelude.{ℕ, ◌*◌, ◌≤◌, ◌≡◌, List, true, length, take}
+use Rattle.std.specs.Prelude.{ℕ, ◌*◌, ◌≤◌, ◌≡◌, List, true, length, take, Result}
 use Rattle.std.proofs.Math.Path.{ap}
 use Rattle.std.proofs.Common.{◌∙◌}
 use Rattle.plan.specs.declared.Policy.{Policy}
 use Rattle.plan.specs.declared.OverrunChoice.{OverrunChoice}
+use Rattle.plan.specs.declared.Refusal.{Refusal}
 use Rattle.plan_tables.specs.declared.PlanRecord.{PlanRecord}
 use Rattle.plan_tables.specs.Layout.{Tables}
 use Rattle.plan_tables.specs.Given.{plan_in, is_given}
@@ -17,7 +18,6 @@ use Rattle.board_rules.specs.Board.{fresh}
 use Rattle.board_events.specs.Events.{replies_to}
 use Rattle.board_viewcells.specs.ViewOf.{view_of}
 use Rattle.board_views.specs.TableLaws.{view_facts}
-use Rattle.listing_lines.specs.declared.TextAnswer.{TextAnswer}
 use Rattle.listing_lines.specs.Into.{text_answer, text_after}
 use Rattle.desk_rooms.specs.Boarded.{answers_for, plan_bound}
 
@@ -36,7 +36,7 @@ module _ (r : PlanRecord) (t : Tables) (view : List ℕ) (g : is_given r t ≡ t
     view_short = rw (view_answers b es h) (plan_bound (plan_in r t) es (given_plan r t g).0)
 
     -- written into a buffer, they are the plan's answers there
-    pub view_text : {a : TextAnswer} (o : List ℕ) {p : List ℕ} →
+    pub view_text : {a : Result ℕ Refusal} (o : List ℕ) {p : List ℕ} →
         (a ≡ text_answer (replies_to (facts_in r.policy r.overrun view) b es) o) × (p ≡ text_after (replies_to (facts_in r.policy r.overrun view) b es) o) →
         (a ≡ text_answer (answers_for (facts_of (system (plan_in r t))) es) o) × (p ≡ text_after (answers_for (facts_of (system (plan_in r t))) es) o)
     view_text {a} o {p} w = (w.0 ∙ ap (λ x. text_answer x o) (view_answers b es h), w.1 ∙ ap (λ x. text_after x o) (view_answers b es h))

@@ -3,7 +3,7 @@ use Prim.Native.Nat.{ℕ, suc, ◌+◌}
 use Rattle.std.proofs.Math.Path.{◌≡◌, refl, ap, sym}
 use Rattle.std.proofs.Common.{◌∙◌}
 use mathlib.Core.List.{List, [], ◌∷◌, ◌++◌}
-use Rattle.std.specs.Prelude.{◌↔◌, Bool, ◌&&◌}
+use Rattle.std.specs.Prelude.{◌↔◌, Bool, ◌&&◌, Ok, Err}
 use Rattle.std.proofs.Math.Bool.{true, false, cond}
 use Rattle.std.proofs.lemmas.Bool.{false≢true}
 use native.Mathlib.Omega.{arith}
@@ -12,7 +12,7 @@ use Rattle.std.proofs.Math.ListN.{length}
 use Rattle.laws.specs.Bytes.{pieces, is_nil}
 use Rattle.laws.specs.BytesLaws.{pieces_some}
 use Rattle.plan.specs.Limits.{lf}
-use Rattle.plan.specs.Refusals.{Complaint, complaint, Refusal, Shape, Fault, Clear, Bad}
+use Rattle.plan.specs.Refusals.{Complaint, complaint, Refusal, Shape, Fault}
 use Rattle.plan.specs.Line.{item_of}
 use Rattle.plan.specs.Rules.{start}
 use Rattle.plan.specs.Reading.{Judge, Verdict, Faultless, FirstBad, fault_of, field_at, next_of, onward, judge, rules, Refuses, answer, reading_by, reading}
@@ -28,12 +28,12 @@ module _ (J : Judge) where
   -- no line has a fault after those before it
   abbrev pub ClearLines : J.Seen → List (List ℕ) → Type 0
   ClearLines t [] = Unit {0}
-  ClearLines t (l ∷ ls) = (fault_of J t (item_of l) ≡ Clear) × ClearLines (next_of J t (item_of l)) ls
+  ClearLines t (l ∷ ls) = (fault_of J t (item_of l) ≡ Ok tt) × ClearLines (next_of J t (item_of l)) ls
 
   -- what is wrong with a line before other pieces is r, in its field f; with what follows the last LF it is Shape, in no field, where bytes stand there or a line is due
   abbrev pub HasFault : J.Seen → List ℕ → List (List ℕ) → Refusal → ℕ → Type 0
   HasFault t l [] r f = ((J.ready t && is_nil l) ≡ false) × (r ≡ Shape) × (f ≡ 0)
-  HasFault t l (m ∷ ls) r f = (fault_of J t (item_of l) ≡ Bad r) × (f ≡ field_at J t (item_of l) r)
+  HasFault t l (m ∷ ls) r f = (fault_of J t (item_of l) ≡ Err r) × (f ≡ field_at J t (item_of l) r)
 
   -- of the pieces from line n on, the line of c is the first bad one, and its number and field are what is wrong with it
   pub record FirstFault (t : J.Seen) (n : ℕ) (ls : List (List ℕ)) (c : Complaint) : Type 0 where
@@ -61,7 +61,7 @@ module _ (J : Judge) where
           (f : Fault) → fault_of J t (item_of l) ≡ f → onward J t (item_of l) f n (judge J (next_of J t (item_of l)) (n + 1) (m ∷ ls)) ≡ FirstBad c →
           (judge J (next_of J t (item_of l)) (n + 1) (m ∷ ls) ≡ FirstBad c → FirstFault (next_of J t (item_of l)) (n + 1) (m ∷ ls) c) →
           FirstFault t n (l ∷ m ∷ ls) c
-      go Clear e h ih =
+      go (Ok tt) e h ih =
           let i = ih h in
           record {
             before = l ∷ i.before;
@@ -72,7 +72,7 @@ module _ (J : Judge) where
             clear = (e, i.clear);
             faulty = i.faulty;
           }
-      go (Bad b) e h ih =
+      go (Err b) e h ih =
           let p : complaint b n (field_at J t (item_of l) b) ≡ c = cc in
           rw (← p) (record { before = []; line = l; after = m ∷ ls; whole = refl; place = sym (add-zero n); clear = tt; faulty = (e, refl) })
 

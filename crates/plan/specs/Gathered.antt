@@ -1,7 +1,6 @@
 -- The plan that lines say, gathered from the last line up: runs, locks and tasks wait for the line that they belong to.
 -- `accepted_exactly` (Accepted) makes it needless to believe this file: a byte string is accepted with a plan exactly when the plan is valid and the bytes are its text.
-use Rattle.std.specs.Prelude.{ℕ, List, [], ◌∷◌, cond}
-use Rattle.std.proofs.Math.Option.{Option, some, none}
+use Rattle.std.specs.Prelude.{ℕ, List, [], ◌∷◌, cond, Option, Some, None}
 use Rattle.laws.specs.Bytes.{is_nil}
 use Rattle.plan.specs.Line.{Item, Kind, item_of, head_or, PlanLine, PolicyPO, PolicyPN, PolicyDO, PolicyDN, VcpuLine, MutexG, MutexL, OpenLine, GuestLine, TaskLine, RunLine, LockLine, EndLine, AskLine, FreeLine, UseLine, TopLine, ShowLine}
 use Rattle.plan.specs.Plan.{Policy, Periodic, Deferrable, OverrunChoice, WithOverrun, WithoutOverrun, Vcpu, Global, Local, Mutex, Open, Lock, Task, Section, Plan}
@@ -70,8 +69,8 @@ unfoldable pub plan_of : List Item → Plan
 plan_of is = plan_from (rest_of is)
 
 abbrev pub push : Option Item → List Item → List Item
-push none is = is
-push (some i) is = i ∷ is
+push None is = is
+push (Some i) is = i ∷ is
 
 -- the items that the lines say; the last piece is no line
 unfoldable pub items_in : List (List ℕ) → List Item

@@ -1,8 +1,7 @@
 -- A text is faultless exactly when it is the text of items that pass: for any judge of items.
-use Rattle.std.specs.Prelude.{ℕ, ◌+◌, ◌↔◌, Bool, ◌&&◌}
+use Rattle.std.specs.Prelude.{ℕ, ◌+◌, ◌↔◌, Bool, ◌&&◌, Option, Some, None, Ok, Err}
 use Rattle.std.proofs.Math.Path.{◌≡◌, refl}
 use mathlib.Core.List.{List, [], ◌∷◌, ◌++◌}
-use Rattle.std.proofs.Math.Option.{Option, some, none}
 use Rattle.std.proofs.Math.Bool.{true, false, cond}
 use Rattle.std.proofs.lemmas.Bool.{false≢true}
 use Rattle.std.proofs.Common.{arith}
@@ -10,7 +9,7 @@ use Rattle.laws.specs.BoolLaws.{both}
 use Rattle.laws.specs.Bytes.{pieces, is_nil}
 use Rattle.laws.specs.BytesLaws.{lacks, each_lacks, pieces_ended, ended_pieces}
 use Rattle.plan.specs.Limits.{lf}
-use Rattle.plan.specs.Refusals.{complaint, Refusal, Shape, Fault, Clear, Bad, unless}
+use Rattle.plan.specs.Refusals.{complaint, Refusal, Shape, Fault, unless}
 use Rattle.plan.specs.Line.{Item, shape, written, item_of, line_of}
 use Rattle.plan.specs.Text.{lines_of, text_of}
 use Rattle.plan.specs.Reading.{Judge, Faultless, FirstBad, fault, fault_of, next_of, onward, judge, Passes}
@@ -19,16 +18,16 @@ use Rattle.plan.specs.ListLaws.{append_some}
 use Rattle.plan.specs.LineLaws.{item_line, line_item, line_lacks}
 
 -- a chain of tests is clear exactly when its first test holds and the rest is clear
-pub unless_clear : (b : Bool) (r : Refusal) (f : Fault) → (unless b r f ≡ Clear) ↔ ((b ≡ true) × (f ≡ Clear))
+pub unless_clear : (b : Bool) (r : Refusal) (f : Fault) → (unless b r f ≡ Ok tt) ↔ ((b ≡ true) × (f ≡ Ok tt))
 unfolding unless
 unless_clear true r f = (λ h. (refl, h), λ h. h.1)
 unless_clear false r f = (λ h. absurd (let z : ◌≡◌ {A = ℕ} 0 1 = cc in omega arith), λ h. absurd (false≢true h.0))
 
 -- its first test, and the rest
-pub clear_test : (b : Bool) (r : Refusal) (f : Fault) → unless b r f ≡ Clear → b ≡ true
+pub clear_test : (b : Bool) (r : Refusal) (f : Fault) → unless b r f ≡ Ok tt → b ≡ true
 clear_test b r f h = ((unless_clear b r f).0 h).0
 
-pub clear_rest : (b : Bool) (r : Refusal) (f : Fault) → unless b r f ≡ Clear → f ≡ Clear
+pub clear_rest : (b : Bool) (r : Refusal) (f : Fault) → unless b r f ≡ Ok tt → f ≡ Ok tt
 clear_rest b r f h = ((unless_clear b r f).0 h).1
 
 pub lines_lack : (is : List Item) → each_lacks lf (lines_of is) ≡ true
@@ -41,16 +40,16 @@ nil_is [] h = refl
 nil_is (x ∷ l) h = absurd (let z : ◌≡◌ {A = ℕ} 0 1 = cc in omega arith)
 
 module _ (J : Judge) where
-  pub fault_allowed : (t : J.Seen) (i : Item) → fault J t i ≡ Clear → J.allowed t i.kind ≡ true
+  pub fault_allowed : (t : J.Seen) (i : Item) → fault J t i ≡ Ok tt → J.allowed t i.kind ≡ true
   unfolding fault
   fault_allowed t i h = clear_test _ _ _ h
 
   -- an item that is allowed here is clear exactly when its numbers are written and the judge says no more
-  pub fault_clear : (t : J.Seen) (i : Item) → J.allowed t i.kind ≡ true → (fault J t i ≡ Clear) ↔ ((written (shape i.kind) i.nums ≡ true) × (J.judged t i ≡ Clear))
+  pub fault_clear : (t : J.Seen) (i : Item) → J.allowed t i.kind ≡ true → (fault J t i ≡ Ok tt) ↔ ((written (shape i.kind) i.nums ≡ true) × (J.judged t i ≡ Ok tt))
   unfolding fault
   fault_clear t i a = (λ h. (unless_clear _ _ _).0 ((unless_clear _ _ _).0 h).1, λ h. (unless_clear _ _ _).1 (a, (unless_clear _ _ _).1 h))
 
-  pub fault_written : (t : J.Seen) (i : Item) → fault J t i ≡ Clear → written (shape i.kind) i.nums ≡ true
+  pub fault_written : (t : J.Seen) (i : Item) → fault J t i ≡ Ok tt → written (shape i.kind) i.nums ≡ true
   fault_written t i h = ((fault_clear t i (fault_allowed t i h)).0 h).0
 
   -- lines of items that pass are faultless
@@ -84,13 +83,13 @@ module _ (J : Judge) where
           onward J t o f n (judge J (next_of J t o) (n + 1) (m ∷ ls)) ≡ Faultless →
           (judge J (next_of J t o) (n + 1) (m ∷ ls) ≡ Faultless → (m ∷ ls ≡ lines_of (items_in (m ∷ ls)) ++ ([] ∷ [])) × Passes J (next_of J t o) (items_in (m ∷ ls))) →
           (l ∷ m ∷ ls ≡ lines_of (push o (items_in (m ∷ ls))) ++ ([] ∷ [])) × Passes J t (push o (items_in (m ∷ ls)))
-      go none e Clear f h ih = absurd (let z : ◌≡◌ {A = ℕ} 0 1 = cc in omega arith)
-      go none e (Bad r) f h ih = absurd (let z : ◌≡◌ {A = ℕ} 0 1 = cc in omega arith)
-      go (some i) e Clear f h ih =
+      go None e (Ok tt) f h ih = absurd (let z : ◌≡◌ {A = ℕ} 0 1 = cc in omega arith)
+      go None e (Err r) f h ih = absurd (let z : ◌≡◌ {A = ℕ} 0 1 = cc in omega arith)
+      go (Some i) e (Ok tt) f h ih =
           let q : l ≡ line_of i = line_item l i e (fault_written t i f) in
           let r : m ∷ ls ≡ lines_of (items_in (m ∷ ls)) ++ ([] ∷ []) = (ih h).0 in
           (cc, (f, (ih h).1))
-      go (some i) e (Bad r) f h ih = absurd (let z : ◌≡◌ {A = ℕ} 0 1 = cc in omega arith)
+      go (Some i) e (Err r) f h ih = absurd (let z : ◌≡◌ {A = ℕ} 0 1 = cc in omega arith)
 
   -- the text of items that pass is faultless, and says these items
   pub text_accepted : (t : J.Seen) (is : List Item) → Passes J t is → (judge J t 1 (pieces lf (text_of is)) ≡ Faultless) × (items_in (pieces lf (text_of is)) ≡ is)

@@ -1,14 +1,11 @@
 -- The lines of a plan and of events: which kinds there are, how each is written, and what a line says.
-use Rattle.std.specs.Prelude.{ℕ, suc, ◌+◌, ◌^◌, Bool, true, false, cond, ◌&&◌, ltb, take}
+use Rattle.std.specs.Prelude.{ℕ, suc, ◌+◌, ◌^◌, Bool, true, false, cond, ◌&&◌, ltb, take, Option, Some, None}
 use mathlib.Core.List.{List, [], ◌∷◌, tail}
-use Rattle.std.proofs.Math.Option.{Option, some, none}
 use Rattle.laws.specs.Bytes.{pieces, joined, same}
 use Rattle.laws.specs.Decimal.{value, decimal}
 use Rattle.plan.specs.Limits.{max_digits, tab}
 pub use Rattle.plan.specs.declared.Kind.{Kind}
 pub use Rattle.plan.specs.declared.Kind.TheVariants.{PlanLine, PolicyPO, PolicyPN, PolicyDO, PolicyDN, VcpuLine, MutexG, MutexL, OpenLine, GuestLine, TaskLine, RunLine, LockLine, EndLine, AskLine, FreeLine, UseLine, TopLine, ShowLine}
-pub use Rattle.plan.specs.declared.Found.{Found}
-pub use Rattle.plan.specs.declared.Found.TheVariants.{Is, Nothing}
 
 -- the words, in bytes
 -- plan
@@ -188,13 +185,13 @@ fields_of (Word w ∷ ps) ns = w ∷ fields_of ps ns
 fields_of (Num ∷ ps) ns = decimal (head_or ns) ∷ fields_of ps (tail ns)
 
 -- the first kind whose shape the fields have (no two kinds share a shape)
-unfoldable pub kind_in : List Kind → List (List ℕ) → Found
-kind_in [] fs = Nothing
-kind_in (k ∷ ks) fs = cond (has_shape (shape k) fs) (Is k) (kind_in ks fs)
+unfoldable pub kind_in : List Kind → List (List ℕ) → Option Kind
+kind_in [] fs = None
+kind_in (k ∷ ks) fs = cond (has_shape (shape k) fs) (Some k) (kind_in ks fs)
 
-abbrev pub item_from : List (List ℕ) → Found → Option Item
-item_from fs Nothing = none
-item_from fs (Is k) = some (record { kind = k; nums = numbers 1 (shape k) fs })
+abbrev pub item_from : List (List ℕ) → Option Kind → Option Item
+item_from fs None = None
+item_from fs (Some k) = Some (record { kind = k; nums = numbers 1 (shape k) fs })
 
 -- what a line says, if it has a kind
 unfoldable pub item_of : List ℕ → Option Item

@@ -1,8 +1,7 @@
 -- A line says an item exactly when it is the item's line.
-use Rattle.std.specs.Prelude.{ℕ, ◌+◌, ◌<◌, ◌≤◌, ◌≡◌, refl, Bool, true, false, cond, ◌&&◌, ltb}
+use Rattle.std.specs.Prelude.{ℕ, ◌+◌, ◌<◌, ◌≤◌, ◌≡◌, refl, Bool, true, false, cond, ◌&&◌, ltb, Option, Some, None}
 use Rattle.std.proofs.Common.{ap, sym, ◌∙◌, arith, ltb-true, lt-ltb}
 use mathlib.Core.List.{List, [], ◌∷◌, tail}
-use Rattle.std.proofs.Math.Option.{some}
 use Rattle.laws.specs.BoolLaws.{both_left, both_right, both}
 use Rattle.laws.specs.Bytes.{pieces, joined, above, same, is_nil}
 use Rattle.laws.specs.BytesLaws.{same_equal, lacks, each_lacks, pieces_joined, joined_pieces, above_lacks, joined_lacks}
@@ -10,7 +9,7 @@ use Rattle.laws.specs.Sums.{all}
 use Rattle.laws.specs.Decimal.{value, decimal}
 use Rattle.laws.proofs.DecimalLaws.{value_decimal, decimal_value, above_decimal}
 use Rattle.plan.specs.Limits.{max_digits, tab, lf}
-use Rattle.plan.specs.Line.{Found, Is, Nothing, Kind, Form, Word, Num, Item, shape, kinds, bad, head_or, has_shape, number_at, numbers, fields_of, kind_in, item_from, item_of, line_of, written}
+use Rattle.plan.specs.Line.{Kind, Form, Word, Num, Item, shape, kinds, bad, head_or, has_shape, number_at, numbers, fields_of, kind_in, item_from, item_of, line_of, written}
 use Rattle.plan.specs.KindLaws.{each_kind, all_kind}
 
 -- a number that is written as it should be is the field's value, wherever the field stands
@@ -54,20 +53,20 @@ numbers_fields k (Num ∷ ps) (n ∷ ns) w =
     cc (number_value k (decimal n) (rw e l), e, numbers_fields (k + 1) ps ns (both_right (ltb n bad) (written ps ns) w))
 
 -- every kind is told by its shape alone
-pub kind_fields : (k : Kind) (ns : List ℕ) → kind_in kinds (fields_of (shape k) ns) ≡ Is k
+pub kind_fields : (k : Kind) (ns : List ℕ) → kind_in kinds (fields_of (shape k) ns) ≡ Some k
 unfolding kind_in fields_of shape has_shape same
-kind_fields k ns = each_kind (λ k. kind_in kinds (fields_of (shape k) ns) ≡ Is k)
+kind_fields k ns = each_kind (λ k. kind_in kinds (fields_of (shape k) ns) ≡ Some k)
     (refl, (refl, (refl, (refl, (refl, (refl, (refl, (refl, (refl, (refl, (refl, (refl, (refl, (refl, (refl, (refl, (refl, (refl, (refl, tt)))))))))))))))))))
     k
 
 -- a kind that was found has its shape
-pub kind_has : (ks : List Kind) (fs : List (List ℕ)) (k : Kind) → kind_in ks fs ≡ Is k → has_shape (shape k) fs ≡ true
+pub kind_has : (ks : List Kind) (fs : List (List ℕ)) (k : Kind) → kind_in ks fs ≡ Some k → has_shape (shape k) fs ≡ true
 unfolding kind_in
 kind_has [] fs k h = absurd (let z : ◌≡◌ {A = ℕ} 0 1 = cc in omega arith)
 kind_has (j ∷ ks) fs k h = go (has_shape (shape j) fs) refl h (kind_has ks fs k)
   where
     go :
-        (t : Bool) → has_shape (shape j) fs ≡ t → cond t (Is j) (kind_in ks fs) ≡ Is k → (kind_in ks fs ≡ Is k → has_shape (shape k) fs ≡ true) →
+        (t : Bool) → has_shape (shape j) fs ≡ t → cond t (Some j) (kind_in ks fs) ≡ Some k → (kind_in ks fs ≡ Some k → has_shape (shape k) fs ≡ true) →
         has_shape (shape k) fs ≡ true
     go true e h ih = let q : j ≡ k = cc in rw q at e
     go false e h ih = ih h
@@ -93,7 +92,7 @@ fields_lack b (Num ∷ ps) ns g h =
     both (lacks b (decimal (head_or ns))) (each_lacks b (fields_of ps (tail ns))) (above_lacks lf b (decimal (head_or ns)) g (above_decimal lf (head_or ns) (omega arith)))
     (fields_lack b ps (tail ns) g h)
 
-kind_some : (fs : List (List ℕ)) (k : Kind) → kind_in kinds fs ≡ Is k → is_nil fs ≡ false
+kind_some : (fs : List (List ℕ)) (k : Kind) → kind_in kinds fs ≡ Some k → is_nil fs ≡ false
 unfolding kind_in shape has_shape
 kind_some [] k h = absurd (let z : ◌≡◌ {A = ℕ} 0 1 = cc in omega arith)
 kind_some (f ∷ fs) k h = refl
@@ -111,19 +110,19 @@ unfolding line_of
 line_lacks i = joined_lacks tab lf (fields_of (shape i.kind) i.nums) refl (fields_lack lf (shape i.kind) i.nums (omega arith) (plain_shape i.kind))
 
 -- an item's line says the item
-pub item_line : (i : Item) → written (shape i.kind) i.nums ≡ true → item_of (line_of i) ≡ some i
+pub item_line : (i : Item) → written (shape i.kind) i.nums ≡ true → item_of (line_of i) ≡ Some i
 unfolding item_of
 item_line i h = rw (line_fields i, kind_fields i.kind i.nums, numbers_fields 1 (shape i.kind) i.nums h)
 
 -- a line that says an item is the item's line
-pub line_item : (l : List ℕ) (i : Item) → item_of l ≡ some i → written (shape i.kind) i.nums ≡ true → l ≡ line_of i
+pub line_item : (l : List ℕ) (i : Item) → item_of l ≡ Some i → written (shape i.kind) i.nums ≡ true → l ≡ line_of i
 unfolding item_of line_of
 line_item l i h = go (kind_in kinds (pieces tab l)) refl h
   where
     go :
-        (o : Found) → kind_in kinds (pieces tab l) ≡ o → item_from (pieces tab l) o ≡ some i → written (shape i.kind) i.nums ≡ true →
+        (o : Option Kind) → kind_in kinds (pieces tab l) ≡ o → item_from (pieces tab l) o ≡ Some i → written (shape i.kind) i.nums ≡ true →
         l ≡ joined tab (fields_of (shape i.kind) i.nums)
-    go Nothing e q = absurd (let z : ◌≡◌ {A = ℕ} 0 1 = cc in omega arith)
-    go (Is k) e q =
+    go None e q = absurd (let z : ◌≡◌ {A = ℕ} 0 1 = cc in omega arith)
+    go (Some k) e q =
         let j : record { kind = k; nums = numbers 1 (shape k) (pieces tab l) } ≡ i = cc in
         rw (← j) (λ w. sym (joined_pieces tab l) ∙ ap (joined tab) (fields_numbers 1 (shape k) (pieces tab l) (kind_has kinds (pieces tab l) k e) w))

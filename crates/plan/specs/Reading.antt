@@ -1,10 +1,9 @@
 -- The reading of a byte string: accepted with its plan, or refused by the first bad line, the lowest number of that line and the field.
 -- Every list of bytes has a reading: `pieces` gives at least one piece, and `judge` runs down the pieces.
-use Rattle.std.specs.Prelude.{ℕ, ◌+◌, ◌≡◌, List, [], ◌∷◌, Bool, true, cond, ◌&&◌, eqb}
-use Rattle.std.proofs.Math.Option.{Option, some, none}
+use Rattle.std.specs.Prelude.{ℕ, ◌+◌, ◌≡◌, List, [], ◌∷◌, Bool, true, cond, ◌&&◌, eqb, Option, Some, None, Ok, Err}
 use Rattle.laws.specs.Bytes.{pieces, is_nil}
 use Rattle.plan.specs.Limits.{lf}
-use Rattle.plan.specs.Refusals.{Complaint, complaint, Refusal, Shape, Number, Fault, Clear, Bad, unless}
+use Rattle.plan.specs.Refusals.{Complaint, complaint, Refusal, Shape, Number, Fault, unless}
 use Rattle.plan.specs.Line.{Item, Kind, shape, written, item_of, head_or}
 use Rattle.plan.specs.Plan.{Plan}
 use Rattle.plan.specs.Lookup.{global}
@@ -32,12 +31,12 @@ module _ (J : Judge) where
   fault t i = unless (J.allowed t i.kind) Shape (unless (written (shape i.kind) i.nums) Number (J.judged t i))
 
   abbrev pub fault_of : J.Seen → Option Item → Fault
-  fault_of t none = Bad Shape
-  fault_of t (some i) = fault t i
+  fault_of t None = Err Shape
+  fault_of t (Some i) = fault t i
 
   abbrev pub next_of : J.Seen → Option Item → J.Seen
-  next_of t none = t
-  next_of t (some i) = J.next t i
+  next_of t None = t
+  next_of t (Some i) = J.next t i
 
   -- what follows the last LF: nothing, and the plan may stop; else 1 at this line (no LF, bytes after `end`, or a line is due)
   abbrev pub finish : J.Seen → List ℕ → ℕ → Verdict
@@ -45,12 +44,12 @@ module _ (J : Judge) where
 
   -- the field of a refused line: 0 for one of no kind
   abbrev pub field_at : J.Seen → Option Item → Refusal → ℕ
-  field_at t none r = 0
-  field_at t (some i) r = J.field t i r
+  field_at t None r = 0
+  field_at t (Some i) r = J.field t i r
 
   abbrev pub onward : J.Seen → Option Item → Fault → ℕ → Verdict → Verdict
-  onward t o Clear n rest = rest
-  onward t o (Bad r) n rest = FirstBad (complaint r n (field_at t o r))
+  onward t o (Ok tt) n rest = rest
+  onward t o (Err r) n rest = FirstBad (complaint r n (field_at t o r))
 
   -- "the first bad line from the top decides": the pieces between the LFs, from line n on; the last piece is what follows the last LF
   unfoldable pub judge : J.Seen → ℕ → List (List ℕ) → Verdict
@@ -60,7 +59,7 @@ module _ (J : Judge) where
   -- no item has a fault after those before it, and the plan may stop after them
   abbrev pub Passes : J.Seen → List Item → Type 0
   Passes t [] = J.ready t ≡ true
-  Passes t (i ∷ is) = (fault t i ≡ Clear) × Passes (J.next t i) is
+  Passes t (i ∷ is) = (fault t i ≡ Ok tt) × Passes (J.next t i) is
 
 -- the judge of a plan's lines
 abbrev pub rules : Judge

@@ -1,10 +1,8 @@
 -- "Numbers that say no": the number of each refusal.
-use Rattle.std.specs.Prelude.{ℕ, Bool, true, false}
+use Rattle.std.specs.Prelude.{ℕ, Bool, true, false, Result, Ok, Err}
 pub use Rattle.plan.specs.declared.Refusal.{Refusal}
 pub use Rattle.plan.specs.declared.Refusal.TheVariants.{Shape, Number, Range, Order, Missing, Outside, TooMany, Room, Foreign, Unknown, Unlisted, Asleep, Busy, NotHolder, Supply}
 pub use Rattle.plan.specs.declared.Complaint.{Complaint}
-pub use Rattle.plan.specs.declared.Fault.{Fault}
-pub use Rattle.plan.specs.declared.Fault.TheVariants.{Clear, Bad}
 
 -- A PLAN'S REFUSAL: number, line and field
 abbrev pub complaint : Refusal → ℕ → ℕ → Complaint
@@ -31,7 +29,15 @@ number_of Busy = 13
 number_of NotHolder = 14
 number_of Supply = 15
 
+-- WHAT IS WRONG with a line or an event: nothing, or one refusal
+abbrev pub Fault : Type 0
+Fault = Result (Unit {0}) Refusal
+
 -- the refusal r, unless the test holds; then what the later tests say
 unfoldable pub unless : Bool → Refusal → Fault → Fault
 unless true r rest = rest
-unless false r rest = Bad r
+unless false r rest = Err r
+
+-- `Ok` where the test holds, else the refusal r
+abbrev pub ensured : Bool → Refusal → Fault
+ensured b r = unless b r (Ok tt)

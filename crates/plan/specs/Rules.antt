@@ -1,8 +1,8 @@
 -- What is wrong with a line after the lines before it, and what is known after it.
-use Rattle.std.specs.Prelude.{ℕ, zero, suc, ◌+◌, Bool, false, ◌&&◌, ◌||◌, eqb, leb, ltb}
+use Rattle.std.specs.Prelude.{ℕ, zero, suc, ◌+◌, Bool, false, ◌&&◌, ◌||◌, eqb, leb, ltb, Ok}
 use mathlib.Core.List.{List, [], ◌∷◌, ◌++◌, tail}
 use Rattle.plan.specs.Limits.{max_v, max_guest, max_core, max_m, max_n, max_period, max_length, max_tasks, max_locks}
-use Rattle.plan.specs.Refusals.{Refusal, Range, Order, Missing, Outside, TooMany, Fault, Clear, unless}
+use Rattle.plan.specs.Refusals.{Refusal, Range, Order, Missing, Outside, TooMany, Fault, unless}
 use Rattle.plan.specs.Line.{Item, head_or, Kind, PlanLine, PolicyPO, PolicyPN, PolicyDO, PolicyDN, VcpuLine, MutexG, MutexL, OpenLine, GuestLine, TaskLine, RunLine, LockLine, EndLine, AskLine, FreeLine, UseLine, TopLine, ShowLine}
 use Rattle.plan.specs.Plan.{Vcpu, Global, Local, Mutex, Open}
 use Rattle.plan.specs.Lookup.{has_vcpu, is_vcpu_of, has_guest, has_mutex, global, reaches}
@@ -115,7 +115,7 @@ test r b = record { refusal = r; holds = b }
 
 -- the refusal of the first test that does not hold
 abbrev pub first_failed : List Test → Fault
-first_failed [] = Clear
+first_failed [] = Ok tt
 first_failed (x ∷ xs) = unless x.holds x.refusal (first_failed xs)
 
 -- WHAT IS ASKED of a line that is allowed here and whose numbers are written as they should be: its tests 3 to 7, in the order of their numbers

@@ -88,13 +88,6 @@ pub enum Refusal {
     Supply,
 }
 
-// What is wrong with a line or an event: nothing, or one refusal.
-#[derive(Clone, Copy)]
-pub enum Fault {
-    Clear,
-    Bad(Refusal),
-}
-
 // A plan's refusal: its number, the line, and the field of that line, 0 for none.
 #[derive(Clone, Copy)]
 pub struct Complaint {
@@ -138,18 +131,12 @@ pub enum Kind {
     ShowLine,
 }
 
-// The kind of a line, if it has one.
-#[derive(Clone, Copy)]
-pub enum Found {
-    Is(Kind),
-    Nothing,
-}
-
-// The refusal r, unless the test holds; then what the later tests say.
-pub fn unless(ok: bool, r: Refusal, rest: Fault) -> Fault
-    ensures { result ≡ refusals.unless ok r rest }
+// `Ok` where the test holds, else the refusal.
+#[tactic(auto, unfolding(crate::specs::Refusals::unless))]
+pub fn ensure(ok: bool, refusal: Refusal) -> Result<(), Refusal>
+    ensures { result ≡ refusals.ensured ok refusal }
 {
-    if ok { rest } else { Fault::Bad(r) }
+    if ok { Ok(()) } else { Err(refusal) }
 }
 
 // Is x from lo to hi?
@@ -163,5 +150,5 @@ pub fn within(x: u64, lo: u64, hi: u64) -> bool
 pub fn larger(a: u64, b: u64) -> u64
     ensures { result ≡ max a b }
 {
-    if a < b { b } else { a }
+    a.max(b)
 }

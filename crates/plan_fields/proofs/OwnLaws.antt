@@ -1,7 +1,6 @@
 -- The field of a refused line is the leftmost whose own test fails with the lowest number.
-use Rattle.std.specs.Prelude.{ℕ, ◌+◌, ◌≡◌, refl, List, [], ◌∷◌, ◌++◌, Bool, true, false, ◌&&◌, ltb, get_or}
+use Rattle.std.specs.Prelude.{ℕ, ◌+◌, ◌≡◌, refl, List, [], ◌∷◌, ◌++◌, Bool, true, false, ◌&&◌, ltb, get_or, Option, Some, None, Err}
 use Rattle.std.proofs.Common.{ap, sym, ◌∙◌, inl, inr, arith}
-use Rattle.std.proofs.Math.Option.{Option, some, none}
 use Rattle.std.proofs.lemmas.Bool.{false≢true}
 use Rattle.laws.specs.BoolLaws.{both_right}
 use Rattle.laws.specs.Bytes.{pieces, same}
@@ -11,11 +10,7 @@ use Rattle.plan.specs.declared.Refusal.{Refusal}
 use Rattle.plan.specs.declared.Refusal.TheVariants.{Shape, Number, Range, Order, Missing, Outside, TooMany, Room, Foreign, Unknown, Unlisted, Asleep, Busy, NotHolder, Supply}
 use Rattle.plan.specs.declared.Kind.{Kind}
 use Rattle.plan.specs.declared.Complaint.{Complaint}
-use Rattle.plan.specs.declared.Fault.{Fault}
-use Rattle.plan.specs.declared.Fault.TheVariants.{Bad}
-use Rattle.plan.specs.declared.Found.{Found}
-use Rattle.plan.specs.declared.Found.TheVariants.{Is, Nothing}
-use Rattle.plan.specs.Refusals.{number_of, unless}
+use Rattle.plan.specs.Refusals.{number_of, unless, Fault}
 use Rattle.plan.specs.Line.{Form, Word, Num, Item, bad, shape, has_shape, numbers, kinds, kind_in, item_from, item_of, written}
 use Rattle.plan.specs.Rules.{Known, start, follows, first_failed, tests_of, rule, vcpu_fits}
 use Rattle.plan.specs.Fields.{unwritten, ranges, first_out, field_of}
@@ -52,15 +47,15 @@ unless_five true true false d e r f = refl
 unless_five true true true d e r f = unless_swap e d r f ∙ sym (unless_both d e r f)
 
 -- a line's item has the shape of its kind, and the numbers that its fields say
-item_has : (l : List ℕ) (i : Item) → item_of l ≡ some i → (has_shape (shape i.kind) (pieces tab l) ≡ true) × (i.nums ≡ numbers 1 (shape i.kind) (pieces tab l))
+item_has : (l : List ℕ) (i : Item) → item_of l ≡ Some i → (has_shape (shape i.kind) (pieces tab l) ≡ true) × (i.nums ≡ numbers 1 (shape i.kind) (pieces tab l))
 unfolding item_of
 item_has l i h = go (kind_in kinds (pieces tab l)) refl h
   where
     go :
-        (o : Found) → kind_in kinds (pieces tab l) ≡ o → item_from (pieces tab l) o ≡ some i →
+        (o : Option Kind) → kind_in kinds (pieces tab l) ≡ o → item_from (pieces tab l) o ≡ Some i →
         (has_shape (shape i.kind) (pieces tab l) ≡ true) × (i.nums ≡ numbers 1 (shape i.kind) (pieces tab l))
-    go Nothing e q = absurd (let z : ◌≡◌ {A = ℕ} 0 1 = cc in omega arith)
-    go (Is k) e q =
+    go None e q = absurd (let z : ◌≡◌ {A = ℕ} 0 1 = cc in omega arith)
+    go (Some k) e q =
         let j : record { kind = k; nums = numbers 1 (shape k) (pieces tab l) } ≡ i = cc in
         rw (← j) (kind_has kinds (pieces tab l) k e, refl)
 
@@ -97,7 +92,7 @@ rest_part t k ns = each_kind (λ k. first_failed (asked (placed Range 1 (shape k
     k
 
 -- the tests of the fields are together those of the line: without their fields they give the fault
-pub own_fault : (t : Known) (l : List ℕ) (i : Item) → item_of l ≡ some i → first_failed (asked (own_tests t l i)) ≡ fault rules t i
+pub own_fault : (t : Known) (l : List ℕ) (i : Item) → item_of l ≡ Some i → first_failed (asked (own_tests t l i)) ≡ fault rules t i
 unfolding fault rule
 own_fault t l i e =
     let k : Kind = i.kind in
@@ -108,7 +103,7 @@ own_fault t l i e =
     ap (unless (follows t.phase k) Shape) (n ∙ ap (unless (written (shape k) (numbers 1 (shape k) (pieces tab l))) Number) (rest_part t k ns) ∙ w)
 
 -- the field of a line's refusal is that of its first test that fails
-all_names : (t : Known) (l : List ℕ) (i : Item) → item_of l ≡ some i → Names (rules.field t i) (own_tests t l i)
+all_names : (t : Known) (l : List ℕ) (i : Item) → item_of l ≡ Some i → Names (rules.field t i) (own_tests t l i)
 unfolding field_of
 all_names t l i e =
     let k : Kind = i.kind in
@@ -121,7 +116,7 @@ all_names t l i e =
     (λ h. refl, λ h. names_append F (placed Number 1 (shape k) bs) (zs ++ others t k ns) y (names_append F zs (others t k ns) z (others_names t k ns)))
 
 -- THE FIELD of a line that is refused
-pub field_decides : (t : Known) (l : List ℕ) (i : Item) (r : Refusal) → item_of l ≡ some i → fault rules t i ≡ Bad r → Decides r (rules.field t i r) (own_tests t l i)
+pub field_decides : (t : Known) (l : List ℕ) (i : Item) (r : Refusal) → item_of l ≡ Some i → fault rules t i ≡ Err r → Decides r (rules.field t i r) (own_tests t l i)
 field_decides t l i r e h =
     let o = all_order t i.kind i.nums (follows t.phase i.kind) (shape i.kind) (as_numbers (shape i.kind) (pieces tab l)) (in_range i.kind i.nums) in
     first_decides (rules.field t i) (own_tests t l i) r o (all_names t l i e) (own_fault t l i e ∙ h)
@@ -131,9 +126,9 @@ fault_told : (t : Known) (l : List ℕ) (ls : List (List ℕ)) (c : Complaint) �
 fault_told t l [] c h = (h.1, h.2)
 fault_told t l (m ∷ ls) c h = go (item_of l) refl h
   where
-    go : (o : Option Item) → item_of l ≡ o → (fault_of rules t o ≡ Bad c.number) × (c.field ≡ field_at rules t o c.number) → Told t l (m ∷ ls) c
-    go none e h = inl (e, let q : ◌≡◌ {A = Fault} (Bad Shape) (Bad c.number) = h.0 in cc, h.1)
-    go (some i) e h = inr (i, e, rw h.1 (field_decides t l i c.number e h.0))
+    go : (o : Option Item) → item_of l ≡ o → (fault_of rules t o ≡ Err c.number) × (c.field ≡ field_at rules t o c.number) → Told t l (m ∷ ls) c
+    go None e h = inl (e, let q : ◌≡◌ {A = Fault} (Err Shape) (Err c.number) = h.0 in cc, h.1)
+    go (Some i) e h = inr (i, e, rw h.1 (field_decides t l i c.number e h.0))
 
 -- OF EVERY REFUSED PLAN: number and field decide at the first bad line
 pub refused_field :

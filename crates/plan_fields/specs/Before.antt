@@ -1,15 +1,12 @@
 -- WHAT READING ANSWERED BEFORE a refusal had its field: accepted, or number and line. These definitions serve the law that neither has changed (BeforeLaws), and nothing else.
-use Rattle.std.specs.Prelude.{ℕ, ◌+◌, List, [], ◌∷◌, cond, ◌&&◌}
-use Rattle.std.proofs.Math.Option.{Option, some, none}
+use Rattle.std.specs.Prelude.{ℕ, ◌+◌, List, [], ◌∷◌, cond, ◌&&◌, Option, Some, None, Ok, Err}
+use Rattle.plan.specs.declared.Kind.{Kind}
 use Rattle.laws.specs.Bytes.{pieces, is_nil}
 use Rattle.laws.specs.Decimal.{value}
 use Rattle.plan.specs.Limits.{max_digits, tab, lf}
 use Rattle.plan.specs.declared.Refusal.{Refusal}
 use Rattle.plan.specs.declared.Refusal.TheVariants.{Shape}
-use Rattle.plan.specs.declared.Fault.{Fault}
-use Rattle.plan.specs.declared.Fault.TheVariants.{Clear, Bad}
-use Rattle.plan.specs.declared.Found.{Found}
-use Rattle.plan.specs.declared.Found.TheVariants.{Is, Nothing}
+use Rattle.plan.specs.Refusals.{Fault}
 use Rattle.plan.specs.Line.{Form, Word, Num, Item, shape, kinds, kind_in}
 use Rattle.plan.specs.Plan.{Plan}
 use Rattle.plan.specs.Gathered.{plan_of, push}
@@ -23,9 +20,9 @@ numbers_before (p ∷ ps) [] = []
 numbers_before (Word w ∷ ps) (f ∷ fs) = numbers_before ps fs
 numbers_before (Num ∷ ps) (f ∷ fs) = value max_digits f ∷ numbers_before ps fs
 
-abbrev pub item_from_before : List (List ℕ) → Found → Option Item
-item_from_before fs Nothing = none
-item_from_before fs (Is k) = some (record { kind = k; nums = numbers_before (shape k) fs })
+abbrev pub item_from_before : List (List ℕ) → Option Kind → Option Item
+item_from_before fs None = None
+item_from_before fs (Some k) = Some (record { kind = k; nums = numbers_before (shape k) fs })
 
 unfoldable pub item_before : List ℕ → Option Item
 item_before l = item_from_before (pieces tab l) (kind_in kinds (pieces tab l))
@@ -39,8 +36,8 @@ abbrev pub finish_before : Known → List ℕ → ℕ → VerdictBefore
 finish_before t l n = cond (rules.ready t && is_nil l) FaultlessBefore (FirstBadBefore Shape n)
 
 abbrev pub onward_before : Fault → ℕ → VerdictBefore → VerdictBefore
-onward_before Clear n rest = rest
-onward_before (Bad r) n rest = FirstBadBefore r n
+onward_before (Ok tt) n rest = rest
+onward_before (Err r) n rest = FirstBadBefore r n
 
 unfoldable pub judge_before : Known → ℕ → List (List ℕ) → VerdictBefore
 judge_before t n [] = FirstBadBefore Shape n

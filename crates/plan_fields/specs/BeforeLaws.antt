@@ -1,5 +1,5 @@
 -- "Which refusal is given does not change": of every list of bytes, and the plan of one that is accepted neither.
-use Rattle.std.specs.Prelude.{ℕ, ◌+◌, ◌≡◌, refl, List, [], ◌∷◌, Bool, true, false, cond, ◌&&◌, ltb}
+use Rattle.std.specs.Prelude.{ℕ, ◌+◌, ◌≡◌, refl, List, [], ◌∷◌, Bool, true, false, cond, ◌&&◌, ltb, Option, Some, None, Ok, Err}
 use Rattle.std.proofs.Common.{ap, ap₂, sym, ◌∙◌, arith}
 use Rattle.laws.specs.BoolLaws.{both_left, both_right}
 use Rattle.laws.specs.Bytes.{pieces, is_nil}
@@ -7,11 +7,7 @@ use Rattle.laws.specs.Decimal.{value}
 use Rattle.plan.specs.Limits.{max_digits, tab, lf}
 use Rattle.plan.specs.declared.Refusal.TheVariants.{Shape, Number}
 use Rattle.plan.specs.declared.Kind.{Kind}
-use Rattle.plan.specs.declared.Fault.{Fault}
-use Rattle.plan.specs.declared.Fault.TheVariants.{Clear, Bad}
-use Rattle.plan.specs.declared.Found.{Found}
-use Rattle.plan.specs.declared.Found.TheVariants.{Is, Nothing}
-use Rattle.plan.specs.Refusals.{complaint, unless}
+use Rattle.plan.specs.Refusals.{complaint, unless, Fault}
 use Rattle.plan.specs.Line.{Form, Word, Num, bad, shape, kinds, kind_in, number_at, numbers, item_from, item_of, written}
 use Rattle.plan.specs.Rules.{Known, start, follows, rule}
 use Rattle.plan.specs.Gathered.{plan_of, push, items_in}
@@ -51,21 +47,21 @@ fault_same : (t : Known) (l : List ℕ) → fault_of rules t (item_of l) ≡ fau
 unfolding item_of item_before fault
 fault_same t l = go (kind_in kinds (pieces tab l))
   where
-    go : (o : Found) → fault_of rules t (item_from (pieces tab l) o) ≡ fault_of rules t (item_from_before (pieces tab l) o)
-    go Nothing = refl
-    go (Is k) =
+    go : (o : Option Kind) → fault_of rules t (item_from (pieces tab l) o) ≡ fault_of rules t (item_from_before (pieces tab l) o)
+    go None = refl
+    go (Some k) =
         let fs = pieces tab l in
         rw (written_same 1 (shape k) fs)
         (ap (unless (follows t.phase k) Shape) (number_fault t k _ _ (written (shape k) (numbers_before (shape k) fs)) (numbers_same 1 (shape k) fs)))
 
 -- and one without a fault says what it said
-item_same : (t : Known) (l : List ℕ) → fault_of rules t (item_of l) ≡ Clear → item_of l ≡ item_before l
+item_same : (t : Known) (l : List ℕ) → fault_of rules t (item_of l) ≡ Ok tt → item_of l ≡ item_before l
 unfolding item_of item_before
 item_same t l = go (kind_in kinds (pieces tab l))
   where
-    go : (o : Found) → fault_of rules t (item_from (pieces tab l) o) ≡ Clear → item_from (pieces tab l) o ≡ item_from_before (pieces tab l) o
-    go Nothing h = refl
-    go (Is k) h =
+    go : (o : Option Kind) → fault_of rules t (item_from (pieces tab l) o) ≡ Ok tt → item_from (pieces tab l) o ≡ item_from_before (pieces tab l) o
+    go None h = refl
+    go (Some k) h =
         let fs = pieces tab l in
         rw (numbers_same 1 (shape k) fs (sym (written_same 1 (shape k) fs) ∙ fault_written rules t _ h))
 
@@ -90,8 +86,8 @@ verdict_same t n (l ∷ m ∷ ls) =
         verdict_without (judge rules (next_of rules t (item_of l)) (n + 1) (m ∷ ls)) ≡ judge_before (next_of rules t (item_of l)) (n + 1) (m ∷ ls) →
         verdict_without (onward rules t (item_of l) f n (judge rules (next_of rules t (item_of l)) (n + 1) (m ∷ ls)))
         ≡ onward_before f n (judge_before (next_of rules t (item_before l)) (n + 1) (m ∷ ls))
-    go Clear e ih = ih ∙ ap (λ o. judge_before (next_of rules t o) (n + 1) (m ∷ ls)) (item_same t l e)
-    go (Bad r) e ih = refl
+    go (Ok tt) e ih = ih ∙ ap (λ o. judge_before (next_of rules t o) (n + 1) (m ∷ ls)) (item_same t l e)
+    go (Err r) e ih = refl
 
 -- faultless lines say what they said
 items_same : (t : Known) (n : ℕ) (ls : List (List ℕ)) → judge rules t n ls ≡ Faultless → items_in ls ≡ items_before ls
@@ -104,8 +100,8 @@ items_same t n (l ∷ m ∷ ls) h = go (fault_of rules t (item_of l)) refl h (it
         (f : Fault) → fault_of rules t (item_of l) ≡ f → onward rules t (item_of l) f n (judge rules (next_of rules t (item_of l)) (n + 1) (m ∷ ls)) ≡ Faultless →
         (judge rules (next_of rules t (item_of l)) (n + 1) (m ∷ ls) ≡ Faultless → items_in (m ∷ ls) ≡ items_before (m ∷ ls)) →
         push (item_of l) (items_in (m ∷ ls)) ≡ push (item_before l) (items_before (m ∷ ls))
-    go Clear e h ih = ap₂ push (item_same t l e) (ih h)
-    go (Bad r) e h ih = absurd (let z : ◌≡◌ {A = ℕ} 0 1 = cc in omega arith)
+    go (Ok tt) e h ih = ap₂ push (item_same t l e) (ih h)
+    go (Err r) e h ih = absurd (let z : ◌≡◌ {A = ℕ} 0 1 = cc in omega arith)
 
 -- a reading without the field
 abbrev pub without_field : Reading → ReadingBefore

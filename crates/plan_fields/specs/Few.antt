@@ -1,5 +1,5 @@
 -- No line has more than six fields, so that no field of a refusal is above 6.
-use Rattle.std.specs.Prelude.{ℕ, ◌+◌, ◌-◌, ◌≤◌, ◌<◌, ◌≡◌, refl, List, [], ◌∷◌, Bool, true, false, cond, ◌&&◌, leb, ltb, length}
+use Rattle.std.specs.Prelude.{ℕ, ◌+◌, ◌-◌, ◌≤◌, ◌<◌, ◌≡◌, refl, List, [], ◌∷◌, Bool, true, false, cond, ◌&&◌, leb, ltb, length, Option, Some, None, Ok, Err}
 use Rattle.std.proofs.Common.{arith, leb-true, ltb-true}
 use Rattle.laws.specs.Sums.{all}
 use Rattle.laws.specs.Bytes.{pieces, is_nil}
@@ -8,12 +8,8 @@ use Rattle.plan.specs.Limits.{max_digits, tab, lf}
 use Rattle.plan.specs.declared.Refusal.{Refusal}
 use Rattle.plan.specs.declared.Refusal.TheVariants.{Shape, Number, Range, Order, Missing, Outside, TooMany, Room, Foreign, Unknown, Unlisted, Asleep, Busy, NotHolder, Supply}
 use Rattle.plan.specs.declared.Complaint.{Complaint}
-use Rattle.plan.specs.declared.Fault.{Fault}
-use Rattle.plan.specs.declared.Fault.TheVariants.{Clear, Bad}
-use Rattle.plan.specs.declared.Found.{Found}
-use Rattle.plan.specs.declared.Found.TheVariants.{Is, Nothing}
 use Rattle.plan.specs.declared.Kind.{Kind}
-use Rattle.plan.specs.Refusals.{complaint}
+use Rattle.plan.specs.Refusals.{complaint, Fault}
 use Rattle.plan.specs.Line.{Form, Word, Num, bad, head_or, shape, kinds, kind_in, number_at, numbers, item_from, item_of}
 use Rattle.plan.specs.KindLaws.{all_kind}
 use Rattle.plan.specs.Lookup.{global}
@@ -84,9 +80,9 @@ field_at_few : (t : Known) (l : List ℕ) (r : Refusal) → field_at rules t (it
 unfolding item_of
 field_at_few t l r = go (kind_in kinds (pieces tab l))
   where
-    go : (o : Found) → field_at rules t (item_from (pieces tab l) o) r ≤ 6
-    go Nothing = omega arith
-    go (Is k) = field_of_few (global t.mutexes (head_or (numbers 1 (shape k) (pieces tab l)))) k (pieces tab l) r
+    go : (o : Option Kind) → field_at rules t (item_from (pieces tab l) o) r ≤ 6
+    go None = omega arith
+    go (Some k) = field_of_few (global t.mutexes (head_or (numbers 1 (shape k) (pieces tab l)))) k (pieces tab l) r
 
 -- a verdict whose field is one of six, or 0
 abbrev Few : Verdict → Type 0
@@ -105,8 +101,8 @@ judge_few t n (l ∷ ls) =
     end false = omega arith
 
     on : (f : Fault) (v : Verdict) → Few v → Few (onward rules t (item_of l) f n v)
-    on Clear v h = h
-    on (Bad r) v h = field_at_few t l r
+    on (Ok tt) v h = h
+    on (Err r) v h = field_at_few t l r
 
     go : (q : Bool) (u v : Verdict) → Few u → Few v → Few (cond q u v)
     go true u v h k = h

@@ -1,6 +1,5 @@
 -- The field of a refused line is the leftmost whose own test fails with the lowest number.
-use Rattle.std.specs.Prelude.{ℕ, ◌≡◌, List, [], ◌∷◌, ◌⊎◌}
-use Rattle.std.proofs.Math.Option.{some, none}
+use Rattle.std.specs.Prelude.{ℕ, ◌≡◌, List, [], ◌∷◌, ◌⊎◌, Some, None}
 use Rattle.plan.specs.declared.Refusal.TheVariants.{Shape}
 use Rattle.plan.specs.declared.Complaint.{Complaint}
 use Rattle.plan.specs.Line.{Item, item_of}
@@ -11,4 +10,4 @@ use Rattle.plan_fields.specs.Own.{own_tests, Decides}
 abbrev pub Told : Known → List ℕ → List (List ℕ) → Complaint → Type 0
 Told t l [] c = (c.number ≡ Shape) × (c.field ≡ 0)
 Told t l (m ∷ ls) c =
-    ((item_of l ≡ none) × (c.number ≡ Shape) × (c.field ≡ 0)) ⊎ ((i : Item) × (item_of l ≡ some i) × Decides c.number c.field (own_tests t l i))
+    ((item_of l ≡ None) × (c.number ≡ Shape) × (c.field ≡ 0)) ⊎ ((i : Item) × (item_of l ≡ Some i) × Decides c.number c.field (own_tests t l i))

@@ -1,5 +1,5 @@
 -- The tests of a line stand in the order of their numbers and, with one number, of their fields; of the first that fails the field is named by `field_of`.
-use Rattle.std.specs.Prelude.{ℕ, ◌+◌, ◌-◌, ◌≤◌, ◌<◌, ◌≡◌, refl, List, [], ◌∷◌, ◌++◌, Bool, true, false, cond, ltb}
+use Rattle.std.specs.Prelude.{ℕ, ◌+◌, ◌-◌, ◌≤◌, ◌<◌, ◌≡◌, refl, List, [], ◌∷◌, ◌++◌, Bool, true, false, cond, ltb, Err}
 use Rattle.std.proofs.Common.{ap, sym, ◌∙◌, inl, inr, arith, le-ltb}
 use Rattle.std.proofs.lemmas.Bool.{false≢true}
 use Rattle.laws.specs.Decimal.{value}
@@ -9,7 +9,6 @@ use Rattle.plan.specs.Limits.{max_digits}
 use Rattle.plan.specs.declared.Refusal.{Refusal}
 use Rattle.plan.specs.declared.Refusal.TheVariants.{Shape, Number, Range}
 use Rattle.plan.specs.declared.Kind.{Kind}
-use Rattle.plan.specs.declared.Fault.TheVariants.{Bad}
 use Rattle.plan.specs.Refusals.{number_of, unless}
 use Rattle.plan.specs.Line.{Form, Word, Num, bad, head_or, number_at, numbers}
 use Rattle.plan.specs.Lookup.{global}
@@ -49,14 +48,14 @@ fails_each P s j (x ∷ xs) e (inl f) = rw (f.1, f.2) e.0
 fails_each P s j (x ∷ xs) e (inr f) = fails_each P s j xs e.1 f
 
 -- where the tests stand in order, the first that fails decides
-pub first_decides : (F : Refusal → ℕ) (xs : List Own) (r : Refusal) → Pairs After xs → Names F xs → first_failed (asked xs) ≡ Bad r → Decides r (F r) xs
+pub first_decides : (F : Refusal → ℕ) (xs : List Own) (r : Refusal) → Pairs After xs → Names F xs → first_failed (asked xs) ≡ Err r → Decides r (F r) xs
 unfolding unless
 first_decides F [] r p n h = absurd (let z : ◌≡◌ {A = ℕ} 0 1 = cc in omega arith)
 first_decides F (x ∷ xs) r p n h = go x.asks.holds refl h (λ e. first_decides F xs r p.1 (n.1 e))
   where
     go :
-        (b : Bool) → x.asks.holds ≡ b → unless b x.asks.refusal (first_failed (asked xs)) ≡ Bad r →
-        (x.asks.holds ≡ true → first_failed (asked xs) ≡ Bad r → Decides r (F r) xs) → Decides r (F r) (x ∷ xs)
+        (b : Bool) → x.asks.holds ≡ b → unless b x.asks.refusal (first_failed (asked xs)) ≡ Err r →
+        (x.asks.holds ≡ true → first_failed (asked xs) ≡ Err r → Decides r (F r) xs) → Decides r (F r) (x ∷ xs)
     go true e h ih =
         let i = ih e h in
         record {

@@ -1,5 +1,5 @@
 -- Laws of `Given`: the plan that gives tables is the plan in them, it is one, and the test for 9 says whether there is one.
-use Rattle.std.specs.Prelude.{ℕ, ◌*◌, ◌/◌, ◌≤◌, ◌<◌, ◌≡◌, Bool, true, false, ◌&&◌, ◌↔◌, eqb, leb, length}
+use Rattle.std.specs.Prelude.{ℕ, ◌*◌, ◌/◌, ◌≤◌, ◌<◌, ◌≡◌, Bool, true, false, ◌&&◌, ◌↔◌, eqb, leb, length, Ok, Err, is_ok}
 use Rattle.std.proofs.Math.Path.{refl}
 use Rattle.std.proofs.Common.{ap, ap₂, sym, ◌∙◌, arith, le-div_iff_mul-le, eq-eqb, ne_eqb, leb-true, le-leb}
 use mathlib.Core.List.{List, [], ◌∷◌, ◌++◌, Memᴰ}
@@ -11,8 +11,7 @@ use Rattle.laws.specs.SumLaws.{each_all, each_map, each_flat}
 use Rattle.laws.specs.Rows.{rows}
 use Rattle.laws.specs.RowLaws.{rows_length, each_row, each_rows, all_found}
 use Rattle.plan.specs.Limits.{max_locks}
-use Rattle.plan.specs.declared.Fault.{Fault}
-use Rattle.plan.specs.declared.Fault.TheVariants.{Clear, Bad}
+use Rattle.plan.specs.Refusals.{Fault}
 use Rattle.plan.specs.Line.{Item}
 use Rattle.plan.specs.Plan.{Vcpu, Owner, Global, Local, Task, Section, Plan, tasks_of}
 use Rattle.plan.specs.Declares.{VcpuOf}
@@ -23,7 +22,7 @@ use Rattle.plan.specs.Reading.{Judge, fault, Passes, rules}
 use Rattle.plan.specs.ListLaws.{chain_rest, rising_above, rising_pairs, first_named}
 use Rattle.plan.proofs.ValidLaws.{passes_valid, valid_passes}
 use Rattle.plan_tables.specs.Layout.{PlanRecord, Tables, vcpu_width, mutex_width, open_width, task_width, vcpu_cells, mutex_cells, open_cells, task_cells, over, cell, vcpu_row, mutex_row, open_row, lock_row, task_row, filled, record_of}
-use Rattle.plan_tables.specs.Given.{Gives, Given, guest_for, atop, sections_of, plan_in, roomy_by, roomy, zero_rest, is_clear, clean, is_given, if_given}
+use Rattle.plan_tables.specs.Given.{Gives, Given, guest_for, atop, sections_of, plan_in, roomy_by, roomy, zero_rest, clean, is_given, if_given}
 use Rattle.plan_tables.specs.FlatLaws.{each_of, Holds, held_back, held_room}
 use Rattle.plan_tables.proofs.LayoutLaws.{Named, Few, task_wide, vcpus_back, mutexes_back, opens_back, tasks_back, vcpus_over, mutexes_over, opens_over, tasks_over, tasks_zeros}
 
@@ -151,15 +150,15 @@ given_once g h v w = sym (plan_given v g) ∙ plan_given w h
 
 -- THE TEST
 
-pub clear_exactly : (f : Fault) → (is_clear f ≡ true) ↔ (f ≡ Clear)
-clear_exactly Clear = (λ h. refl, λ h. refl)
-clear_exactly (Bad r) = (λ h. absurd (false≢true h), λ h. ap is_clear h)
+pub clear_exactly : (f : Fault) → (is_ok f ≡ true) ↔ (f ≡ Ok tt)
+clear_exactly (Ok tt) = (λ h. refl, λ h. refl)
+clear_exactly (Err r) = (λ h. absurd (false≢true h), λ h. ap is_ok h)
 
 pub clean_passes : (J : Judge) (t : J.Seen) (is : List Item) → (clean J t is ≡ true) ↔ Passes J t is
 unfolding clean
 clean_passes J t [] = (λ h. h, λ h. h)
 clean_passes J t (i ∷ is) = (
-  λ h. ((clear_exactly (fault J t i)).0 (both_left _ _ h), (clean_passes J (J.next t i) is).0 (both_right (is_clear (fault J t i)) _ h)),
+  λ h. ((clear_exactly (fault J t i)).0 (both_left _ _ h), (clean_passes J (J.next t i) is).0 (both_right (is_ok (fault J t i)) _ h)),
   λ h. both _ _ ((clear_exactly (fault J t i)).1 h.0) ((clean_passes J (J.next t i) is).1 h.1),
 )
 

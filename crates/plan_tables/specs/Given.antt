@@ -1,10 +1,8 @@
 -- Tables that an accepted plan gives, the plan in them, and the test for 9.
-use Rattle.std.specs.Prelude.{ℕ, ◌+◌, ◌-◌, ◌*◌, ◌≡◌, List, [], ◌∷◌, Bool, true, false, ◌&&◌, eqb, leb, length}
+use Rattle.std.specs.Prelude.{ℕ, ◌+◌, ◌-◌, ◌*◌, ◌≡◌, List, [], ◌∷◌, Bool, true, false, ◌&&◌, eqb, leb, length, is_ok}
 use Rattle.std.specs.Prelude.{if◌then◌else◌}
 use Rattle.laws.specs.Sums.{first, all}
 use Rattle.laws.specs.Rows.{rows}
-use Rattle.plan.specs.declared.Fault.{Fault}
-use Rattle.plan.specs.declared.Fault.TheVariants.{Clear, Bad}
 use Rattle.plan.specs.Line.{Item}
 use Rattle.plan.specs.Plan.{Vcpu, Task, Section, Plan}
 use Rattle.plan.specs.Valid.{Valid}
@@ -64,15 +62,11 @@ zero_from t i c = all (λ x. eqb x 0) (rows (task_width - c) (λ j. cell t task_
 unfoldable pub zero_rest : List ℕ → ℕ → Bool
 zero_rest t i = zero_from t i (first_lock + cell t task_width i 4 * lock_width)
 
-abbrev pub is_clear : Fault → Bool
-is_clear Clear = true
-is_clear (Bad r) = false
-
 module _ (J : Judge) where
   -- no item has a fault after those before it, and the plan may stop after them
   unfoldable pub clean : J.Seen → List Item → Bool
   clean t [] = J.ready t
-  clean t (i ∷ is) = is_clear (fault J t i) && clean (J.next t i) is
+  clean t (i ∷ is) = is_ok (fault J t i) && clean (J.next t i) is
 
 unfoldable pub is_given : PlanRecord → Tables → Bool
 is_given r t = roomy r t && (all (λ i. zero_rest t.tasks i) (rows r.tasks (λ i. i)) && clean rules start (items_of (plan_in r t)))

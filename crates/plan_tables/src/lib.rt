@@ -4,10 +4,10 @@
 ghost use Rattle.std.specs.Prelude.{◌≡◌, ◌≤◌, get_or};
 ghost use Rattle.laws.specs.Rows.{Is};
 ghost use Rattle.plan_tables.specs.Layout.{task_width};
-ghost use Rattle.plan_tables.specs.Given.{roomy_by, is_clear};
+ghost use Rattle.plan_tables.specs.Given.{roomy_by};
 ghost use Rattle.plan_tables.specs.RowPlaces as places;
 
-use plan::{Fault, MAX_GUEST, MAX_LOCKS, MAX_M, OverrunChoice, Policy};
+use plan::{MAX_GUEST, MAX_LOCKS, MAX_M, OverrunChoice, Policy};
 
 // The numbers in a row of each table (specs/Layout).
 pub const VCPU_WIDTH: usize = 5;
@@ -42,17 +42,7 @@ pub struct PlanRecord {
 pub fn at(t: &[u64], k: usize) -> u64
     ensures { result ≡ get_or t.now k 0 }
 {
-    if k < t.len() { t[k] } else { 0 }
-}
-
-// Is nothing wrong?
-pub fn is_clear(f: Fault) -> bool
-    ensures { result ≡ is_clear f }
-{
-    match f {
-        Fault::Clear => true,
-        Fault::Bad(_) => false,
-    }
+    t.get(k).copied().unwrap_or(0)
 }
 
 // Have tables of these lengths room for as many rows as a record counts?

@@ -3,13 +3,11 @@ use Rattle.std.specs.Prelude.{ℕ, ◌≡◌, ◌≤◌, Bool, false, List, leng
 use Rattle.std.specs.declared.io.Error.{Error}
 use Rattle.std.specs.IoError.{raw_os_error}
 use Rattle.program_ends.specs.Ends.{is_absent, is_closed}
-pub use Rattle.program.specs.declared.Input.{Input}
-pub use Rattle.program.specs.declared.Input.TheVariants.{Bytes, Unread}
 
 -- an input after its last read: none where that failed, however many bytes came before it, else all n that were read
-abbrev pub input_after : ℤ → ℕ → Input
-input_after (pos k) n = Bytes n
-input_after (negsuc k) n = Unread
+abbrev pub input_after : ℤ → ℕ → Option ℕ
+input_after (pos k) n = Some n
+input_after (negsuc k) n = None
 
 -- what a read with room for n bytes may answer: -1, or how many it has put, at most n
 abbrev pub Moved : ℕ → ℤ → Type 0
@@ -21,9 +19,9 @@ abbrev pub Counts : ℕ → List ℕ → Type 0
 Counts n xs = (n ≤ length xs) × (n ≡ length (take n xs))
 
 -- what is handed on of a buffer: so many bytes at its start, and no more than it has
-abbrev pub Handed : Input → List ℕ → Type 0
-Handed (Bytes n) xs = Counts n xs
-Handed Unread xs = Unit {0}
+abbrev pub Handed : Option ℕ → List ℕ → Type 0
+Handed (Some n) xs = Counts n xs
+Handed None xs = Unit {0}
 
 -- what a test of the system's numbers of errors says of an error of std, which has such a number or none
 abbrev pub numbered : (ℤ → Bool) → Option ℤ → Bool

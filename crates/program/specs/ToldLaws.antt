@@ -1,16 +1,16 @@
 -- Laws of Told, over the bits by which code holds a number with a sign.
-use Rattle.std.specs.Prelude.{ℕ, ◌+◌, ◌-◌, ◌≤◌, ◌<◌, ◌≡◌, refl, true, false, List, ℤ, pos, negsuc, length, take, drop}
+use Rattle.std.specs.Prelude.{ℕ, ◌+◌, ◌-◌, ◌≤◌, ◌<◌, ◌≡◌, refl, true, false, List, ℤ, pos, negsuc, length, take, drop, Option, None, Some}
 use Rattle.std.proofs.Common.{zero-le, arith, sym, ap, subst, ◌∙◌, true≢false, length-take, length-drop, length-take-le, SFits, to_z, of_z, to_z-of_z, ltb-true}
 use Rattle.std.specs.Int.Signed.{lt_z}
 use Rattle.std.specs.Int.{w64}
 use Rattle.program_ends.specs.Ends.{more_bytes}
-use Rattle.program.specs.Told.{Input, Bytes, Unread, input_after, Handed, Moved, Counts}
+use Rattle.program.specs.Told.{input_after, Handed, Moved, Counts}
 
-pub after_below : (n : ℕ) (z : ℤ) → lt_z z (pos 0) ≡ true → Unread ≡ input_after z n
+pub after_below : (n : ℕ) (z : ℤ) → lt_z z (pos 0) ≡ true → None ≡ input_after z n
 after_below n (pos k) e = absurd (let l : k < 0 = ltb-true k 0 e in omega arith)
 after_below n (negsuc k) e = refl
 
-pub after_others : (n : ℕ) (z : ℤ) → lt_z z (pos 0) ≡ false → Bytes n ≡ input_after z n
+pub after_others : (n : ℕ) (z : ℤ) → lt_z z (pos 0) ≡ false → Some n ≡ input_after z n
 after_others n (pos k) e = refl
 after_others n (negsuc k) e = absurd (true≢false e)
 
@@ -35,5 +35,5 @@ handed_after n xs (pos k) h = counted n xs h
 handed_after n xs (negsuc k) h = tt
 
 -- an input of n bytes hands on the first n of its buffer
-pub handed_bytes : (n : ℕ) (xs : List ℕ) {i : Input} → i ≡ Bytes n → Handed i xs → Counts n xs
+pub handed_bytes : (n : ℕ) (xs : List ℕ) {i : Option ℕ} → i ≡ Some n → Handed i xs → Counts n xs
 handed_bytes n xs e h = subst (λ x. Handed x xs) e h

@@ -1,7 +1,7 @@
 // What a program reads and writes. Where that fails it says what and why on standard error, where it says nothing else; only of a reader that has closed the pipe it says nothing, since the status of the program says that.
 #![tactic(auto)]
 
-ghost use Rattle.std.specs.Prelude.{◌≡◌, ℕ, ◌-◌, ◌≤◌, ◌<◌, ◌<ℤ◌, pos, length, take, drop, IsSome};
+ghost use Rattle.std.specs.Prelude.{◌≡◌, ℕ, ◌-◌, ◌≤◌, ◌<◌, ◌<ℤ◌, pos, length, take, drop, Some, None, IsSome};
 ghost use Rattle.std.specs.Process.{exit_status};
 ghost use Rattle.std.specs.Io.KnownBytes.{Consumes, IsAtEnd};
 ghost use Rattle.program_ends.specs.Ends.{more_bytes};
@@ -9,17 +9,10 @@ ghost use Rattle.program.specs.Told.{Handed, Moved, input_after, is_missing, is_
 
 use program_ends::{is_absent, is_closed, more};
 use std::fs::File;
-use std::io::{ErrorKind, Input as StandardInput, Read};
+use std::io::{ErrorKind, Input, Read};
 use std::process::ExitCode;
 use std::rt::Files;
 use std::{io, str};
-
-// An input: so many bytes at the start of a buffer, or none, since it cannot be read.
-#[derive(Drop)]
-pub enum Input {
-    Bytes(usize),
-    Unread,
-}
 
 // Says what cannot be read or written, and why. Where standard error cannot be written either, nobody is left to tell.
 fn tell(rt: &impl Eprint, what: &[u8], error: io::Error) {
@@ -33,13 +26,13 @@ fn tell(rt: &impl Eprint, what: &[u8], error: io::Error) {
 }
 
 // What an input is after its last read.
-fn input_after(answer: isize, done: usize) -> Input
+fn input_after(answer: isize, done: usize) -> Option<usize>
     ensures { result ≡ input_after answer done }
 {
     if answer < 0 {
-        return Input::Unread;
+        return None;
     }
-    Input::Bytes(done)
+    Some(done)
 }
 
 // One read, behind what was read before, which it leaves as it is: how many bytes it has put, or -1, and `fault` is then why.
@@ -66,11 +59,11 @@ fn read_on<R: Read>(
 }
 
 // Reads until the input ends or the buffer is full; `fault` is why it cannot be read. Of an input whose bytes are known, those are handed on that it gives, all of them or as many as the buffer takes.
-fn read_all<R: Read>(input: &mut R, buf: &mut [u8], fault: &mut Option<io::Error>) -> Input
+fn read_all<R: Read>(input: &mut R, buf: &mut [u8], fault: &mut Option<io::Error>) -> Option<usize>
     ensures handed { Handed result buf.new }
-    ensures bytes { (n : ℕ) → result ≡ Input.Bytes n → Consumes (R.remaining input.old) (R.remaining input.new) (take n buf.new) }
-    ensures end { (n : ℕ) → result ≡ Input.Bytes n → n < length buf.old → IsAtEnd (R.remaining input.new) }
-    ensures reason { result ≡ Input.Unread → IsSome fault.new }
+    ensures bytes { (n : ℕ) → result ≡ Some n → Consumes (R.remaining input.old) (R.remaining input.new) (take n buf.new) }
+    ensures end { (n : ℕ) → result ≡ Some n → n < length buf.old → IsAtEnd (R.remaining input.new) }
+    ensures reason { result ≡ None → IsSome fault.new }
 {
     let mut done = 0;
     while done < buf.len() {
@@ -81,14 +74,14 @@ fn read_all<R: Read>(input: &mut R, buf: &mut [u8], fault: &mut Option<io::Error
         }
         done += k;
     }
-    Input::Bytes(done)
+    Some(done)
 }
 
 // Reads an open input, and says so under its name where it cannot be read.
-fn read_open<R: Read>(rt: &impl Eprint, input: &mut R, name: &[u8], buf: &mut [u8]) -> Input
+fn read_open<R: Read>(rt: &impl Eprint, input: &mut R, name: &[u8], buf: &mut [u8]) -> Option<usize>
     ensures handed { Handed result buf.new }
-    ensures bytes { (n : ℕ) → result ≡ Input.Bytes n → Consumes (R.remaining input.old) (R.remaining input.new) (take n buf.new) }
-    ensures end { (n : ℕ) → result ≡ Input.Bytes n → n < length buf.old → IsAtEnd (R.remaining input.new) }
+    ensures bytes { (n : ℕ) → result ≡ Some n → Consumes (R.remaining input.old) (R.remaining input.new) (take n buf.new) }
+    ensures end { (n : ℕ) → result ≡ Some n → n < length buf.old → IsAtEnd (R.remaining input.new) }
 {
     let mut fault = None;
     let given = read_all(input, buf, &mut fault);
@@ -99,7 +92,7 @@ fn read_open<R: Read>(rt: &impl Eprint, input: &mut R, name: &[u8], buf: &mut [u
 }
 
 // Reads standard input, which the program calls by this name.
-pub fn read_input(rt: &(impl StandardInput + Eprint), name: &[u8], buf: &mut [u8]) -> Input
+pub fn read_input(rt: &(impl Input + Eprint), name: &[u8], buf: &mut [u8]) -> Option<usize>
     ensures { Handed result buf.new }
 {
     read_open(rt, &mut rt.reader(), name, buf)
@@ -124,7 +117,7 @@ fn is_missing(error: &io::Error) -> bool
 }
 
 // Reads a file by its name; an absent one counts as empty.
-pub fn read_file(rt: &(impl Files + Eprint), name: &[u8], buf: &mut [u8]) -> Input
+pub fn read_file(rt: &(impl Files + Eprint), name: &[u8], buf: &mut [u8]) -> Option<usize>
     ensures { Handed result buf.new }
 {
     let error = match open(rt, name) {
@@ -132,10 +125,10 @@ pub fn read_file(rt: &(impl Files + Eprint), name: &[u8], buf: &mut [u8]) -> Inp
         Err(error) => error,
     };
     if is_missing(&error) {
-        return Input::Bytes(0);
+        return Some(0);
     }
     tell(rt, name, error);
-    Input::Unread
+    None
 }
 
 // Whether an error says that the reader has closed the pipe.

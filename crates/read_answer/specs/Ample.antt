@@ -1,5 +1,5 @@
 -- Tables with room for the rows of every plan.
-use Rattle.std.specs.Prelude.{ℕ, ◌*◌, ◌≤◌, ◌≡◌, refl, List, true, length}
+use Rattle.std.specs.Prelude.{ℕ, ◌*◌, ◌≤◌, ◌≡◌, refl, List, true, length, Ok, Err}
 use Rattle.std.proofs.Common.{ap, sym, ◌∙◌, arith}
 use Rattle.laws.specs.Bytes.{pieces}
 use Rattle.std.specs.Prelude.{if◌then◌else◌}
@@ -17,7 +17,7 @@ use Rattle.plan_tables.proofs.Sound.{valid_vcpus, valid_mutexes, valid_opens}
 use Rattle.judge_coded.specs.Coded.{start}
 use Rattle.read_tally.specs.Tally.{blank}
 use Rattle.read_fill.specs.Fill.{vcpu_put, mutex_put, open_put, task_put}
-use Rattle.read_answer.specs.Into.{Accepted, Refused, answer_into, plan_answer, tables_after}
+use Rattle.read_answer.specs.Into.{answer_into, plan_answer, tables_after}
 use Rattle.read_answer.specs.Judged.{judged_from, lines_left, left_if}
 use Rattle.read_answer.specs.JudgedLaws.{roomless, judged_reading, Left, read_left}
 
@@ -44,14 +44,14 @@ unfolding plan_answer
 ample_answer s t a = judged_reading s ∙ go (reading s) refl
   where
     go : (x : Reading) → reading s ≡ x → roomless x ≡ answer_into x t
-    go (Accepts p) e = sym (ap (λ b. if b then Accepted (record_of p) else Refused no_room) (ample_roomy p t (read_text_law s p e).0 a))
+    go (Accepts p) e = sym (ap (λ b. if b then Ok (record_of p) else Err no_room) (ample_roomy p t (read_text_law s p e).0 a))
     go (Refuses x) e = refl
 
 -- the lines of an accepted plan leave what the reading leaves, in any tables with room
 pub accepted_left :
-    (s : List ℕ) (t : Tables) (r : PlanRecord) → plan_answer s t ≡ Accepted r →
+    (s : List ℕ) (t : Tables) (r : PlanRecord) → plan_answer s t ≡ Ok r →
     lent (lines_left vcpu_put s t.vcpus) (lines_left mutex_put s t.mutexes) (lines_left open_put s t.opens) (lines_left task_put s t.tasks) ≡ tables_after s t
 unfolding left_if
 accepted_left s t r e =
-    let l : Left s t true = read_left s t (Accepted r) true (sym e) refl in
+    let l : Left s t true = read_left s t (Ok r) true (sym e) refl in
     λ i. lent (l.vcpus i) (l.mutexes i) (l.opens i) (l.tasks i)

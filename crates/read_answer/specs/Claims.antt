@@ -1,5 +1,5 @@
 -- What a reading into tables answers, and leaves, in the words of the documents.
-use Rattle.std.specs.Prelude.{ℕ, ◌*◌, ◌↔◌, ◌⊎◌, Bool, length, drop}
+use Rattle.std.specs.Prelude.{ℕ, ◌*◌, ◌↔◌, ◌⊎◌, Bool, length, drop, Result, Ok, Err}
 use Rattle.std.proofs.Math.Path.{◌≡◌, refl, ap, sym}
 use Rattle.std.proofs.Common.{◌∙◌, subst, inl, arith, drop_at}
 use mathlib.Core.List.{List, ◌++◌}
@@ -22,7 +22,7 @@ use Rattle.plan_tables.specs.FlatLaws.{each_of, flat_length}
 use Rattle.plan_tables.proofs.LayoutLaws.{task_wide}
 use Rattle.plan_tables.specs.Given.{Gives, roomy, is_given, plan_in}
 use Rattle.plan_tables.proofs.GivenLaws.{Roomy, roomy_exactly, valid_few, given_exactly, given_plan, tested_exactly}
-use Rattle.read_answer.specs.Into.{PlanAnswer, Accepted, Refused, answer_into, plan_answer, tables_after}
+use Rattle.read_answer.specs.Into.{answer_into, plan_answer, tables_after}
 use Rattle.read_answer.specs.RoomLaws.{never_room}
 use Rattle.read_answer.specs.JudgedLaws.{after_filled, after_kept, after_refused}
 
@@ -61,43 +61,43 @@ filled_again p t =
     }
 
 module _ (s : List ℕ) (t : Tables) where
-  accepted_why : (r : PlanRecord) → plan_answer s t ≡ Accepted r → (p : Plan) × WithRoom s t r p
+  accepted_why : (r : PlanRecord) → plan_answer s t ≡ Ok r → (p : Plan) × WithRoom s t r p
   unfolding plan_answer
   accepted_why r h = go (reading s) refl h
     where
       at :
-          (p : Plan) → reading s ≡ Accepts p → (b : Bool) → roomy (record_of p) t ≡ b → (if b then Accepted (record_of p) else Refused no_room) ≡ Accepted r →
+          (p : Plan) → reading s ≡ Accepts p → (b : Bool) → roomy (record_of p) t ≡ b → (if b then Ok (record_of p) else Err no_room) ≡ Ok r →
           (p : Plan) × WithRoom s t r p
       at p e true q h = let z : record_of p ≡ r = cc in (p, record { reads = e; room = q; recorded = sym z })
       at p e false q h = absurd (let z : ◌≡◌ {A = ℕ} 0 1 = cc in omega arith)
 
-      go : (x : Reading) → reading s ≡ x → answer_into x t ≡ Accepted r → (p : Plan) × WithRoom s t r p
+      go : (x : Reading) → reading s ≡ x → answer_into x t ≡ Ok r → (p : Plan) × WithRoom s t r p
       go (Accepts p) e h = at p e (roomy (record_of p) t) refl h
       go (Refuses x) e h = absurd (let z : ◌≡◌ {A = ℕ} 0 1 = cc in omega arith)
 
-  room_accepted : (r : PlanRecord) (p : Plan) → WithRoom s t r p → plan_answer s t ≡ Accepted r
+  room_accepted : (r : PlanRecord) (p : Plan) → WithRoom s t r p → plan_answer s t ≡ Ok r
   unfolding plan_answer
   room_accepted r p h =
-      ap (λ x. answer_into x t) h.reads ∙ ap (λ b. if b then Accepted (record_of p) else Refused no_room) h.room ∙ ap Accepted (sym h.recorded)
+      ap (λ x. answer_into x t) h.reads ∙ ap (λ b. if b then Ok (record_of p) else Err no_room) h.room ∙ ap Ok (sym h.recorded)
 
-  refused_why : (x : Complaint) → plan_answer s t ≡ Refused x → (reading s ≡ Refuses x) ⊎ ((x ≡ no_room) × ((p : Plan) × Lacks s t p))
+  refused_why : (x : Complaint) → plan_answer s t ≡ Err x → (reading s ≡ Refuses x) ⊎ ((x ≡ no_room) × ((p : Plan) × Lacks s t p))
   unfolding plan_answer
   refused_why x h = go (reading s) refl h
     where
       at :
-          (p : Plan) → reading s ≡ Accepts p → (b : Bool) → roomy (record_of p) t ≡ b → (if b then Accepted (record_of p) else Refused no_room) ≡ Refused x →
+          (p : Plan) → reading s ≡ Accepts p → (b : Bool) → roomy (record_of p) t ≡ b → (if b then Ok (record_of p) else Err no_room) ≡ Err x →
           (reading s ≡ Refuses x) ⊎ ((x ≡ no_room) × ((p : Plan) × Lacks s t p))
       at p e true q h = absurd (let z : ◌≡◌ {A = ℕ} 0 1 = cc in omega arith)
       at p e false q h =
           let a : no_room ≡ x = cc in
           inr (sym a, (p, record { reads = e; room = q }))
 
-      go : (y : Reading) → reading s ≡ y → answer_into y t ≡ Refused x → (reading s ≡ Refuses x) ⊎ ((x ≡ no_room) × ((p : Plan) × Lacks s t p))
+      go : (y : Reading) → reading s ≡ y → answer_into y t ≡ Err x → (reading s ≡ Refuses x) ⊎ ((x ≡ no_room) × ((p : Plan) × Lacks s t p))
       go (Accepts p) e h = at p e (roomy (record_of p) t) refl h
       go (Refuses y) e h = let a : y ≡ x = cc in inl (e ∙ ap Refuses a)
 
   -- "Every refusal leaves the lent tables .. as they were lent"
-  pub refusal_leaves : (x : Complaint) → plan_answer s t ≡ Refused x → tables_after s t ≡ t
+  pub refusal_leaves : (x : Complaint) → plan_answer s t ≡ Err x → tables_after s t ≡ t
   refusal_leaves x h = go (refused_why x h)
     where
       go : (reading s ≡ Refuses x) ⊎ ((x ≡ no_room) × ((p : Plan) × Lacks s t p)) → tables_after s t ≡ t
@@ -125,26 +125,26 @@ module _ (s : List ℕ) (t : Tables) where
         tasks = rows_beyond task_cells task_width ks t.tasks (each_map ks task_wide (valid_few v));
       }
 
-  pub acceptance_leaves : (r : PlanRecord) → plan_answer s t ≡ Accepted r → Beyond r (tables_after s t)
+  pub acceptance_leaves : (r : PlanRecord) → plan_answer s t ≡ Ok r → Beyond r (tables_after s t)
   acceptance_leaves r h =
       let w = accepted_why r h in
       beyond_same r (record_of w.0) (tables_after s t) (filled w.0 t) w.1.recorded (after_filled s t w.0 w.1.reads w.1.room)
       (beyond_filled w.0 (read_text_law s w.0 w.1.reads).0)
 
   -- what each answer leaves
-  abbrev pub LeftBy : PlanAnswer → Type 0
-  LeftBy (Accepted r) = Beyond r (tables_after s t)
-  LeftBy (Refused x) = tables_after s t ≡ t
+  abbrev pub LeftBy : Result PlanRecord Complaint → Type 0
+  LeftBy (Ok r) = Beyond r (tables_after s t)
+  LeftBy (Err x) = tables_after s t ≡ t
 
   pub answer_leaves : LeftBy (plan_answer s t)
   answer_leaves = go (plan_answer s t) refl
     where
-      go : (a : PlanAnswer) → plan_answer s t ≡ a → LeftBy a
-      go (Accepted r) h = acceptance_leaves r h
-      go (Refused x) h = refusal_leaves x h
+      go : (a : Result PlanRecord Complaint) → plan_answer s t ≡ a → LeftBy a
+      go (Ok r) h = acceptance_leaves r h
+      go (Err x) h = refusal_leaves x h
 
   -- accepted with room exactly when it is the text of a valid plan, and then the plan is that one
-  pub accepted_with_room : (r : PlanRecord) → (plan_answer s t ≡ Accepted r) ↔ ((p : Plan) × Valid p × (s ≡ text p) × Roomy (record_of p) t × (r ≡ record_of p))
+  pub accepted_with_room : (r : PlanRecord) → (plan_answer s t ≡ Ok r) ↔ ((p : Plan) × Valid p × (s ≡ text p) × Roomy (record_of p) t × (r ≡ record_of p))
   accepted_with_room r = (
     λ h.
         let w = accepted_why r h in
@@ -156,24 +156,24 @@ module _ (s : List ℕ) (t : Tables) where
   )
 
   -- a refusal by another number than 8 is the reading's
-  pub refused_reading : (x : Complaint) → (x.number ≡ Room → ⊥) → (plan_answer s t ≡ Refused x) ↔ (reading s ≡ Refuses x)
+  pub refused_reading : (x : Complaint) → (x.number ≡ Room → ⊥) → (plan_answer s t ≡ Err x) ↔ (reading s ≡ Refuses x)
   unfolding plan_answer
   refused_reading x n = (λ h. ⊎_elim (λ e. e) (λ e. absurd (n (ap (λ (y : Complaint). y.number) e.0))) (refused_why x h), λ e. ap (λ y. answer_into y t) e)
 
   -- a plan with no fault and no room is refused by 8, at line 0 and field 0
-  pub room_refused : (p : Plan) → Lacks s t p → plan_answer s t ≡ Refused no_room
+  pub room_refused : (p : Plan) → Lacks s t p → plan_answer s t ≡ Err no_room
   unfolding plan_answer
-  room_refused p h = ap (λ x. answer_into x t) h.reads ∙ ap (λ b. if b then Accepted (record_of p) else Refused no_room) h.room
+  room_refused p h = ap (λ x. answer_into x t) h.reads ∙ ap (λ b. if b then Ok (record_of p) else Err no_room) h.room
 
   -- and 8 is given for no other reason
-  pub room_exactly : (x : Complaint) → x.number ≡ Room → (plan_answer s t ≡ Refused x) ↔ ((x ≡ no_room) × ((p : Plan) × Lacks s t p))
+  pub room_exactly : (x : Complaint) → x.number ≡ Room → (plan_answer s t ≡ Err x) ↔ ((x ≡ no_room) × ((p : Plan) × Lacks s t p))
   room_exactly x r = (
     λ h. ⊎_elim (λ e. absurd (never_room s x r e)) (λ e. e) (refused_why x h),
-    λ h. room_refused h.1.0 h.1.1 ∙ ap Refused (sym h.0),
+    λ h. room_refused h.1.0 h.1.1 ∙ ap Err (sym h.0),
   )
 
   -- what an accepted call leaves is what the plan gives
-  pub accepted_gives : (r : PlanRecord) → plan_answer s t ≡ Accepted r → (p : Plan) × (reading s ≡ Accepts p) × Valid p × Gives p r (tables_after s t)
+  pub accepted_gives : (r : PlanRecord) → plan_answer s t ≡ Ok r → (p : Plan) × (reading s ≡ Accepts p) × Valid p × Gives p r (tables_after s t)
   accepted_gives r h =
       let w = accepted_why r h in
       let p : Plan = w.0 in
@@ -181,11 +181,11 @@ module _ (s : List ℕ) (t : Tables) where
       (p, w.1.reads, (read_text_law s p w.1.reads).0, record { recorded = w.1.recorded; held = e ∙ sym (filled_again p t) ∙ ap (filled p) (sym e) })
 
   -- and so passes the test for 9
-  pub accepted_given : (r : PlanRecord) → plan_answer s t ≡ Accepted r → is_given r (tables_after s t) ≡ true
+  pub accepted_given : (r : PlanRecord) → plan_answer s t ≡ Ok r → is_given r (tables_after s t) ≡ true
   accepted_given r h = let w = accepted_gives r h in (given_exactly r (tables_after s t)).1 (w.0, w.2, w.3)
 
 -- tables that pass the test for 9 are what an accepted call leaves: the text of the plan in them, read into them, is accepted and changes nothing
-pub given_left : (r : PlanRecord) (t : Tables) → is_given r t ≡ true → (plan_answer (text (plan_in r t)) t ≡ Accepted r) × (tables_after (text (plan_in r t)) t ≡ t)
+pub given_left : (r : PlanRecord) (t : Tables) → is_given r t ≡ true → (plan_answer (text (plan_in r t)) t ≡ Ok r) × (tables_after (text (plan_in r t)) t ≡ t)
 given_left r t h =
     let p : Plan = plan_in r t in
     let g = given_plan r t h in

@@ -1,8 +1,7 @@
 -- The code of the reader answers what it should: line by line, with room, and in the tables.
-use Rattle.std.specs.Prelude.{ℕ, suc, ◌+◌, ◌≤◌, ◌≡◌, List, [], ◌∷◌, Bool, false, cond, ◌&&◌, length, drop}
+use Rattle.std.specs.Prelude.{ℕ, suc, ◌+◌, ◌≤◌, ◌≡◌, List, [], ◌∷◌, Bool, false, cond, ◌&&◌, length, drop, Option, Some, None, Result, Ok, Err, is_ok}
 use Rattle.std.proofs.Math.Path.{refl}
 use Rattle.std.proofs.Common.{ap, sym, ◌∙◌, true≢false, arith, ne_eqb}
-use Rattle.std.proofs.Math.Option.{none}
 use Rattle.std.proofs.Math.Bool.{true}
 use Rattle.std.proofs.lemmas.Bool.{false≢true}
 use Rattle.std.proofs.Math.Dec.{eqb}
@@ -11,14 +10,10 @@ use Rattle.laws.specs.BytesLaws.{pieces_some}
 use Rattle.std.specs.Prelude.{if◌then◌else◌}
 use Rattle.plan.specs.Limits.{lf}
 use Rattle.plan.specs.declared.Kind.{Kind}
-use Rattle.plan.specs.declared.Found.{Found}
-use Rattle.plan.specs.declared.Found.TheVariants.{Is, Nothing}
 use Rattle.plan.specs.declared.Refusal.{Refusal}
 use Rattle.plan.specs.declared.Refusal.TheVariants.{Shape}
 use Rattle.plan.specs.declared.Complaint.{Complaint}
-use Rattle.plan.specs.Refusals.{complaint, no_room}
-use Rattle.plan.specs.declared.Fault.{Fault}
-use Rattle.plan.specs.declared.Fault.TheVariants.{Clear, Bad}
+use Rattle.plan.specs.Refusals.{complaint, no_room, Fault}
 use Rattle.plan.specs.Line.{shape, has_shape, kind_in, item_of}
 use Rattle.plan.specs.Plan.{Plan}
 use Rattle.plan.specs.Reading.{Verdict, Faultless, FirstBad, judge, fault, fault_of, field_at, next_of, onward, answer, Reading, Accepts, Refuses, reading_by, reading}
@@ -26,7 +21,7 @@ use Rattle.plan.specs.Gathered.{items_in, plan_of}
 use Rattle.plan.proofs.Accepted.{read_text_law}
 use Rattle.plan_tables.specs.declared.PlanRecord.{PlanRecord}
 use Rattle.plan_tables.specs.Layout.{Tables, filled, record_of}
-use Rattle.plan_tables.specs.Given.{roomy_by, roomy, is_clear}
+use Rattle.plan_tables.specs.Given.{roomy_by, roomy}
 use Rattle.plan_tables.proofs.GivenLaws.{roomy_exactly}
 use Rattle.text_lines.specs.declared.Said.{Said}
 use Rattle.text_lines.specs.Said.{said_of, said_item}
@@ -43,7 +38,7 @@ use Rattle.read_tally.specs.Tally.{record_in, tallied, tally_after, blank}
 use Rattle.read_tally.specs.TallyLaws.{text_record}
 use Rattle.read_fill.specs.Fill.{filled_by, vcpu_put, mutex_put, open_put, task_put}
 use Rattle.read_fill.specs.PlanLaws.{tables_by, text_tables}
-use Rattle.read_answer.specs.Into.{PlanAnswer, Accepted, Refused, answer_into, tables_into, plan_answer, tables_after}
+use Rattle.read_answer.specs.Into.{answer_into, tables_into, plan_answer, tables_after}
 use Rattle.read_answer.specs.Judged.{answer_by, judged_from, field_by, refused_by, finish_by, room_or, with_room, is_accepted, left_from, lines_left, left_if}
 
 -- ONE LINE, the one that begins at `at`
@@ -52,7 +47,7 @@ nil_length : (r : List ℕ) → is_nil r ≡ eqb (length r) 0
 nil_length [] = refl
 nil_length (x ∷ r) = sym (ne_eqb (suc (length r)) 0 (λ e. omega arith))
 
-item_nil : item_of [] ≡ none
+item_nil : item_of [] ≡ None
 unfolding item_of pieces kind_in shape has_shape same
 item_nil = refl
 
@@ -62,8 +57,8 @@ finish_by_law true c n = refl
 finish_by_law false c n = refl
 
 -- a line with no fault is not empty
-pub line_some : (t : Seen) (l : List ℕ) → is_clear (fault_of coded t (said_item (said_of l))) ≡ true → 1 ≤ length l
-line_some t [] q = absurd (false≢true (sym (ap (λ i. is_clear (fault_of coded t i)) (sym (said_item_law []) ∙ item_nil)) ∙ q))
+pub line_some : (t : Seen) (l : List ℕ) → is_ok (fault_of coded t (said_item (said_of l))) ≡ true → 1 ≤ length l
+line_some t [] q = absurd (false≢true (sym (ap (λ i. is_ok (fault_of coded t i)) (sym (said_item_law []) ∙ item_nil)) ∙ q))
 line_some t (x ∷ l) q = omega arith
 
 module _ (s : List ℕ) (at : ℕ) (t : Seen) (c : Tally) (n : ℕ) where
@@ -79,34 +74,34 @@ module _ (s : List ℕ) (at : ℕ) (t : Seen) (c : Tally) (n : ℕ) where
     rest = pieces lf (drop (line_at s at).next s)
 
     -- what follows, where the line has the fault f
-    abbrev follows : Fault → PlanAnswer
+    abbrev follows : Fault → Result PlanRecord Complaint
     follows f = answer_by (onward coded t (said_item x) f n (judge coded (next_of coded t (said_item x)) (n + 1) rest)) (record_in (tallied (tally_after c x) rest))
 
     judged_step : judged_from t c n (pieces lf (drop at s)) ≡ follows (fault_of coded t (said_item x))
     unfolding judged_from judge tallied
     judged_step = rw (ended_pieces s at h) (simp (pieces_some lf (drop (line_at s at).next s)) (rw (said_item_law (line_in s at), line_said s at)))
 
-    pub judged_bad : is_clear (fault_of coded t (said_item x)) ≡ false → judged_from t c n (pieces lf (drop at s)) ≡ refused_by (fault_of coded t (said_item x)) n (field_by t (said_item x) (fault_of coded t (said_item x)))
+    pub judged_bad : is_ok (fault_of coded t (said_item x)) ≡ false → judged_from t c n (pieces lf (drop at s)) ≡ refused_by (fault_of coded t (said_item x)) n (field_by t (said_item x) (fault_of coded t (said_item x)))
     judged_bad q = judged_step ∙ go (fault_of coded t (said_item x)) q
       where
-        go : (f : Fault) → is_clear f ≡ false → follows f ≡ refused_by f n (field_by t (said_item x) f)
-        go Clear q = absurd (true≢false q)
-        go (Bad y) q = refl
+        go : (f : Fault) → is_ok f ≡ false → follows f ≡ refused_by f n (field_by t (said_item x) f)
+        go (Ok tt) q = absurd (true≢false q)
+        go (Err y) q = refl
 
-    pub judged_next : is_clear (fault_of coded t (said_item x)) ≡ true → judged_from t c n (pieces lf (drop at s)) ≡ judged_from (next_of coded t (said_item x)) (tally_after c x) (n + 1) rest
+    pub judged_next : is_ok (fault_of coded t (said_item x)) ≡ true → judged_from t c n (pieces lf (drop at s)) ≡ judged_from (next_of coded t (said_item x)) (tally_after c x) (n + 1) rest
     unfolding judged_from
     judged_next q = judged_step ∙ go (fault_of coded t (said_item x)) q
       where
-        go : (f : Fault) → is_clear f ≡ true → follows f ≡ answer_by (judge coded (next_of coded t (said_item x)) (n + 1) rest) (record_in (tallied (tally_after c x) rest))
-        go Clear q = refl
-        go (Bad y) q = absurd (false≢true q)
+        go : (f : Fault) → is_ok f ≡ true → follows f ≡ answer_by (judge coded (next_of coded t (said_item x)) (n + 1) rest) (record_in (tallied (tally_after c x) rest))
+        go (Ok tt) q = refl
+        go (Err y) q = absurd (false≢true q)
 
 -- ROOM
 
 -- the answer where there is room
-abbrev pub roomless : Reading → PlanAnswer
-roomless (Accepts p) = Accepted (record_of p)
-roomless (Refuses x) = Refused x
+abbrev pub roomless : Reading → Result PlanRecord Complaint
+roomless (Accepts p) = Ok (record_of p)
+roomless (Refuses x) = Err x
 
 pub judged_reading : (s : List ℕ) → judged_from start blank 1 (pieces lf s) ≡ roomless (reading s)
 unfolding judged_from reading_by
@@ -120,13 +115,13 @@ judged_reading s = go (judge coded start 1 (pieces lf s)) refl
         let p : Plan = plan_of (items_in (pieces lf s)) in
         let q : reading s ≡ Accepts p = sym (same_reading s) ∙ ap (λ v. answer v p) e in
         let h = read_text_law s p q in
-        ap (λ x. Accepted (record_in (tallied blank (pieces lf x)))) h.1 ∙ ap Accepted (text_record p h.0) ∙ ap roomless (sym q)
+        ap (λ x. Ok (record_in (tallied blank (pieces lf x)))) h.1 ∙ ap Ok (text_record p h.0) ∙ ap roomless (sym q)
     go (FirstBad x) e =
         let p : Plan = plan_of (items_in (pieces lf s)) in
         let q : reading s ≡ Refuses x = sym (same_reading s) ∙ ap (λ v. answer v p) e in
         ap roomless (sym q)
 
-room_or_law : (r : PlanRecord) (b : Bool) → room_or b r ≡ (if b then Accepted r else Refused no_room)
+room_or_law : (r : PlanRecord) (b : Bool) → room_or b r ≡ (if b then Ok r else Err no_room)
 unfolding room_or
 room_or_law r true = refl
 room_or_law r false = refl
@@ -172,9 +167,9 @@ left_all put t c d n (l ∷ k ∷ ls) e =
         (f : Fault) → onward coded t (said_item (said_of l)) f n (judge coded next (n + 1) (k ∷ ls)) ≡ Faultless →
         (judge coded next (n + 1) (k ∷ ls) ≡ Faultless →
         left_from put next (tally_after c (said_of l)) (put c (said_of l) d) (k ∷ ls) ≡ filled_by put (tally_after c (said_of l)) (put c (said_of l) d) (k ∷ ls)) →
-        cond (is_clear f) (left_from put next (tally_after c (said_of l)) (put c (said_of l) d) (k ∷ ls)) d ≡ filled_by put (tally_after c (said_of l)) (put c (said_of l) d) (k ∷ ls)
-    go Clear q h = h q
-    go (Bad x) q h = absurd (let z : ◌≡◌ {A = ℕ} 0 1 = cc in omega arith)
+        cond (is_ok f) (left_from put next (tally_after c (said_of l)) (put c (said_of l) d) (k ∷ ls)) d ≡ filled_by put (tally_after c (said_of l)) (put c (said_of l) d) (k ∷ ls)
+    go (Ok tt) q h = h q
+    go (Err x) q h = absurd (let z : ◌≡◌ {A = ℕ} 0 1 = cc in omega arith)
 
 -- the lines of an accepted plan have none
 judged_clear : (s : List ℕ) (p : Plan) → reading s ≡ Accepts p → judge coded start 1 (pieces lf s) ≡ Faultless
@@ -211,7 +206,7 @@ pub tables_left : (s : List ℕ) (t : Tables) → Left s t (is_accepted (plan_an
 unfolding plan_answer
 tables_left s t = go (reading s) refl
   where
-    at : (p : Plan) → reading s ≡ Accepts p → (b : Bool) → roomy (record_of p) t ≡ b → Left s t (is_accepted (if b then Accepted (record_of p) else Refused no_room))
+    at : (p : Plan) → reading s ≡ Accepts p → (b : Bool) → roomy (record_of p) t ≡ b → Left s t (is_accepted (if b then Ok (record_of p) else Err no_room))
     at p e true q =
         let h = read_text_law s p e in
         left_filled s t (judged_clear s p e) (after_filled s t p e q ∙ sym (ap (λ x. tables_by x t) h.1 ∙ text_tables p h.0 t ((roomy_exactly (record_of p) t).0 q)))
@@ -222,26 +217,26 @@ tables_left s t = go (reading s) refl
     go (Refuses x) e = left_kept s t (after_refused s t x e)
 
 -- WHAT A LINE SAYS, by its kind
-module _ (t : Seen) (f : Found) (a b c d e : ℕ) where
-  pub fault_found : (k : Kind) (z : Fault) → z ≡ fault coded t (code.item k a b c d e) → f ≡ Is k → z ≡ fault_of coded t (said.item_as f a b c d e)
+module _ (t : Seen) (f : Option Kind) (a b c d e : ℕ) where
+  pub fault_found : (k : Kind) (z : Fault) → z ≡ fault coded t (code.item k a b c d e) → f ≡ Some k → z ≡ fault_of coded t (said.item_as f a b c d e)
   fault_found k z h g =
       h ∙ ap (λ f. fault_of coded t (said.item_as f a b c d e)) (sym g)
 
-  pub fault_nothing : f ≡ Nothing → Bad Shape ≡ fault_of coded t (said.item_as f a b c d e)
+  pub fault_nothing : f ≡ None → Err Shape ≡ fault_of coded t (said.item_as f a b c d e)
   fault_nothing g = ap (λ f. fault_of coded t (said.item_as f a b c d e)) (sym g)
 
-  pub field_found : (r : Refusal) (k : Kind) (z : ℕ) → z ≡ coded.field t (code.item k a b c d e) r → f ≡ Is k → z ≡ field_at coded t (said.item_as f a b c d e) r
+  pub field_found : (r : Refusal) (k : Kind) (z : ℕ) → z ≡ coded.field t (code.item k a b c d e) r → f ≡ Some k → z ≡ field_at coded t (said.item_as f a b c d e) r
   field_found r k z h g =
       h ∙ ap (λ f. field_at coded t (said.item_as f a b c d e) r) (sym g)
 
-  pub field_nothing : (r : Refusal) → f ≡ Nothing → 0 ≡ field_at coded t (said.item_as f a b c d e) r
+  pub field_nothing : (r : Refusal) → f ≡ None → 0 ≡ field_at coded t (said.item_as f a b c d e) r
   field_nothing r g = ap (λ f. field_at coded t (said.item_as f a b c d e) r) (sym g)
 
-  pub seen_found : (k : Kind) (z : Seen) → z ≡ coded.next t (code.item k a b c d e) → f ≡ Is k → z ≡ next_of coded t (said.item_as f a b c d e)
+  pub seen_found : (k : Kind) (z : Seen) → z ≡ coded.next t (code.item k a b c d e) → f ≡ Some k → z ≡ next_of coded t (said.item_as f a b c d e)
   seen_found k z h g =
       h ∙ ap (λ f. next_of coded t (said.item_as f a b c d e)) (sym g)
 
-  pub seen_nothing : f ≡ Nothing → t ≡ next_of coded t (said.item_as f a b c d e)
+  pub seen_nothing : f ≡ None → t ≡ next_of coded t (said.item_as f a b c d e)
   seen_nothing g = ap (λ f. next_of coded t (said.item_as f a b c d e)) (sym g)
 
 pub left_on : (on : Bool) (put : Tally → Said → List ℕ → List ℕ) (s d e : List ℕ) → on ≡ true → e ≡ lines_left put s d → e ≡ left_if on put s d
@@ -253,16 +248,16 @@ unfolding left_if
 left_off on put s d h = simp h
 
 pub room_by :
-    (a z : PlanAnswer) (b : Bool) (r : PlanRecord) (v m o k : ℕ) → z ≡ room_or b r → b ≡ roomy_by r v m o k → a ≡ Accepted r → z ≡ with_room a v m o k
+    (a z : Result PlanRecord Complaint) (b : Bool) (r : PlanRecord) (v m o k : ℕ) → z ≡ room_or b r → b ≡ roomy_by r v m o k → a ≡ Ok r → z ≡ with_room a v m o k
 room_by a z b r v m o k h q e = h ∙ ap (λ b. room_or b r) q ∙ ap (λ a. with_room a v m o k) (sym e)
 
 -- the whole reader: what it answers by the lines, with room
 pub read_answer :
-    (s : List ℕ) (t : Tables) (a b : PlanAnswer) → a ≡ judged_from start blank 1 (pieces lf s) →
+    (s : List ℕ) (t : Tables) (a b : Result PlanRecord Complaint) → a ≡ judged_from start blank 1 (pieces lf s) →
     b ≡ with_room a (length t.vcpus) (length t.mutexes) (length t.opens) (length t.tasks) → b ≡ plan_answer s t
 read_answer s t a b ea eb =
     eb ∙ ap (λ a. with_room a (length t.vcpus) (length t.mutexes) (length t.opens) (length t.tasks)) (ea ∙ judged_reading s) ∙ room_answer s t
 
 -- and what it leaves
-pub read_left : (s : List ℕ) (t : Tables) (b : PlanAnswer) (on : Bool) → b ≡ plan_answer s t → on ≡ is_accepted b → Left s t on
+pub read_left : (s : List ℕ) (t : Tables) (b : Result PlanRecord Complaint) (on : Bool) → b ≡ plan_answer s t → on ≡ is_accepted b → Left s t on
 read_left s t b on eb eo = rw (eo, eb) (tables_left s t)

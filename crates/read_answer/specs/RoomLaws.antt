@@ -1,6 +1,5 @@
 -- A reading is refused by 1 to 7 only: 8 is given for no fault.
-use Rattle.std.specs.Prelude.{ℕ, ◌+◌, ◌≤◌, ◌≡◌, refl, List, [], ◌∷◌, Bool, true, false, cond, ◌&&◌, leb}
-use Rattle.std.proofs.Math.Option.{Option, some, none}
+use Rattle.std.specs.Prelude.{ℕ, ◌+◌, ◌≤◌, ◌≡◌, refl, List, [], ◌∷◌, Bool, true, false, cond, ◌&&◌, leb, Option, Some, None, Ok, Err}
 use Rattle.std.proofs.Common.{arith, leb-true}
 use Rattle.laws.specs.BoolLaws.{both_left, both_right}
 use Rattle.laws.specs.Sums.{all}
@@ -8,11 +7,9 @@ use Rattle.laws.specs.Bytes.{pieces, is_nil}
 use Rattle.plan.specs.Limits.{lf}
 use Rattle.plan.specs.declared.Refusal.{Refusal}
 use Rattle.plan.specs.declared.Refusal.TheVariants.{Shape, Number, Room}
-use Rattle.plan.specs.declared.Fault.{Fault}
-use Rattle.plan.specs.declared.Fault.TheVariants.{Clear, Bad}
 use Rattle.plan.specs.declared.Kind.{Kind}
 use Rattle.plan.specs.declared.Complaint.{Complaint}
-use Rattle.plan.specs.Refusals.{complaint, number_of, unless}
+use Rattle.plan.specs.Refusals.{complaint, number_of, unless, Fault}
 use Rattle.plan.specs.Line.{Item, item_of}
 use Rattle.plan.specs.Rules.{Known, start, Test, first_failed, tests_of, rule}
 use Rattle.plan.specs.Reading.{Verdict, Faultless, FirstBad, rules, fault, fault_of, next_of, onward, judge, answer, Refuses, reading_by, reading}
@@ -20,8 +17,8 @@ use Rattle.plan.specs.Gathered.{items_in, plan_of}
 use Rattle.plan.specs.KindLaws.{all_kind}
 
 abbrev Low : Fault → Type 0
-Low Clear = Unit {0}
-Low (Bad r) = number_of r ≤ 7
+Low (Ok tt) = Unit {0}
+Low (Err r) = number_of r ≤ 7
 
 unless_low : (b : Bool) (r : Refusal) (f : Fault) → number_of r ≤ 7 → Low f → Low (unless b r f)
 unfolding unless
@@ -46,8 +43,8 @@ rule_low t k ns = first_low (tests_of t k ns) (tests_low t k ns)
 
 fault_low : (t : Known) (o : Option Item) → Low (fault_of rules t o)
 unfolding fault number_of
-fault_low t none = omega arith
-fault_low t (some i) = unless_low _ Shape _ (omega arith) (unless_low _ Number _ (omega arith) (rule_low t i.kind i.nums))
+fault_low t None = omega arith
+fault_low t (Some i) = unless_low _ Shape _ (omega arith) (unless_low _ Number _ (omega arith) (rule_low t i.kind i.nums))
 
 abbrev LowVerdict : Verdict → Type 0
 LowVerdict Faultless = Unit {0}
@@ -62,8 +59,8 @@ judge_low t n (l ∷ ls) =
     go : (a b : Bool) (f : Fault) → Low f → (v : Verdict) → LowVerdict v → LowVerdict (cond a (cond b Faultless (FirstBad (complaint Shape n 0))) (onward rules t (item_of l) f n v))
     go true true f h v k = tt
     go true false f h v k = omega arith
-    go false b Clear h v k = k
-    go false b (Bad r) h v k = h
+    go false b (Ok tt) h v k = k
+    go false b (Err r) h v k = h
 
 room_high : number_of Room ≤ 7 → ⊥
 unfolding number_of

@@ -1,5 +1,5 @@
 -- What lines write of rows into a table, line by line.
-use Rattle.std.specs.Prelude.{ℕ, zero, suc, ◌+◌, ◌-◌, ◌*◌, List, [], ◌∷◌, Bool, true, false, cond, eqb, ltb, set}
+use Rattle.std.specs.Prelude.{ℕ, zero, suc, ◌+◌, ◌-◌, List, [], ◌∷◌, Bool, true, false, cond, eqb, set}
 use Rattle.laws.specs.Bytes.{is_nil}
 use Rattle.text_lines.specs.declared.Said.{Said}
 use Rattle.text_lines.specs.Said.{said_of}

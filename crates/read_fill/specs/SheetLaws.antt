@@ -41,7 +41,7 @@ unfolding zeros
 zeros_more zero R = refl
 zeros_more (suc n) R = ap (λ x. 0 ∷ x) (zeros_more n R)
 
-wiped_part : (P Q : List ℕ) (k n : ℕ) → length P ≡ k → n ≤ length Q → wiped (P ++ Q) k n ≡ P ++ (zeros n ++ drop n Q)
+pub wiped_part : (P Q : List ℕ) (k n : ℕ) → length P ≡ k → n ≤ length Q → wiped (P ++ Q) k n ≡ P ++ (zeros n ++ drop n Q)
 unfolding wiped
 wiped_part P Q k zero l h = unfold zeros in refl
 wiped_part P Q k (suc n) l h =

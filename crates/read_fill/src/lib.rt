@@ -62,10 +62,9 @@ fn wipe(d: &mut [u64], k: usize, n: usize)
     requires { (k ≤ 4000) × (n ≤ task_width) }
     ensures { d.new ≡ fills.wiped d.old k n }
 {
-    let mut i = 0;
-    while i < n {
-        put(true, d, k + i, 0);
-        i += 1;
+    let end = d.len().min(k + n);
+    if k < end {
+        d[k..end].fill(0);
     }
 }
 
@@ -80,12 +79,7 @@ fn width_if(on: bool) -> usize
 fn last_row(t: Tally) -> usize
     ensures { Is result (fills.last_row t) 3712 }
 {
-    let n = t.tasks;
-    if n == 0 {
-        plan_tables::place(0, TASK_WIDTH)
-    } else {
-        plan_tables::place(n - 1, TASK_WIDTH)
-    }
+    plan_tables::place(t.tasks.saturating_sub(1), TASK_WIDTH)
 }
 
 // What the first line of a task writes.

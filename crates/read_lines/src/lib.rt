@@ -12,18 +12,17 @@ ghost use Rattle.read_fill.specs.Fill as fills;
 ghost use Rattle.read_answer.specs.Judged as judged;
 
 use judge_coded::Seen;
-use plan::{Fault, Found, Refusal};
-use read_answer::PlanAnswer;
+use plan::{Complaint, Refusal};
+use plan_tables::PlanRecord;
 use text_lines::Said;
 
 // What is wrong with a line.
-fn fault_in(t: Seen, s: Said) -> Fault
+fn fault_in(t: Seen, s: Said) -> Result<(), Refusal>
     ensures { result ≡ fault_of coded.coded t (said_item s) }
 {
-    let found = s.found;
-    match found {
-        Found::Is(k) => judge_faults::fault_of(t, k, s.a, s.b, s.c, s.d, s.e),
-        Found::Nothing => Fault::Bad(Refusal::Shape),
+    match s.found {
+        Some(k) => judge_faults::fault_of(t, k, s.a, s.b, s.c, s.d, s.e),
+        None => Err(Refusal::Shape),
     }
 }
 
@@ -31,20 +30,9 @@ fn fault_in(t: Seen, s: Said) -> Fault
 fn field_said(t: Seen, s: Said, r: Refusal) -> u64
     ensures { result ≡ field_at coded.coded t (said_item s) r }
 {
-    let found = s.found;
-    match found {
-        Found::Is(k) => judge_fields::field_of(t, k, s.a, s.b, s.c, s.d, s.e, r),
-        Found::Nothing => 0,
-    }
-}
-
-// The field of a line with a fault.
-fn field_in(t: Seen, s: Said, f: Fault) -> u64
-    ensures { result ≡ judged.field_by t (said_item s) f }
-{
-    match f {
-        Fault::Clear => 0,
-        Fault::Bad(r) => field_said(t, s, r),
+    match s.found {
+        Some(k) => judge_fields::field_of(t, k, s.a, s.b, s.c, s.d, s.e, r),
+        None => 0,
     }
 }
 
@@ -52,10 +40,9 @@ fn field_in(t: Seen, s: Said, f: Fault) -> u64
 fn seen_in(t: Seen, s: Said) -> Seen
     ensures { result ≡ next_of coded.coded t (said_item s) }
 {
-    let found = s.found;
-    match found {
-        Found::Is(k) => judge_seen::seen_after(t, k, s.a, s.b, s.c, s.d, s.e),
-        Found::Nothing => t,
+    match s.found {
+        Some(k) => judge_seen::seen_after(t, k, s.a, s.b, s.c, s.d, s.e),
+        None => t,
     }
 }
 
@@ -67,7 +54,7 @@ pub fn read_lines(
     mt: &mut [u64],
     ot: &mut [u64],
     kt: &mut [u64],
-) -> PlanAnswer
+) -> Result<PlanRecord, Complaint>
     ensures value { result ≡ judged.judged_from coded.start tallies.blank 1 (pieces lf src.now) }
     ensures vt_after { vt.new ≡ judged.lines_left fills.vcpu_put src.now vt.old }
     ensures mt_after { mt.new ≡ judged.lines_left fills.mutex_put src.now mt.old }
@@ -85,9 +72,8 @@ pub fn read_lines(
             return read_answer::finish(judge_seen::ready(t) & l.empty, c, n);
         }
         let s = l.said;
-        let f = fault_in(t, s);
-        if !plan_tables::is_clear(f) {
-            return read_answer::refused(f, n, field_in(t, s, f));
+        if let Err(r) = fault_in(t, s) {
+            return read_answer::refuse(r, n, field_said(t, s, r));
         }
         read_fill::put_line(c, s, vt, mt, ot, kt);
         let u = seen_in(t, s);

@@ -11,10 +11,11 @@ ghost use Rattle.read_fill.specs.Fill as fills;
 ghost use Rattle.read_answer.specs.Into.{plan_answer, tables_after};
 ghost use Rattle.read_answer.specs.Judged as judged;
 
-use read_answer::PlanAnswer;
+use plan::Complaint;
+use plan_tables::PlanRecord;
 
 // The answer alone, for tables with room: what is written goes into tables of one number, and is dropped.
-fn judge_lines(src: &[u8]) -> PlanAnswer
+fn judge_lines(src: &[u8]) -> Result<PlanRecord, Complaint>
     ensures { result ≡ judged.judged_from coded.start tallies.blank 1 (pieces lf src.now) }
 {
     let mut vt = [0u64; 1];
@@ -32,7 +33,7 @@ fn fill_if(on: bool, src: &[u8], vt: &mut [u64], mt: &mut [u64], ot: &mut [u64],
     ensures kt_after { kt.new ≡ judged.left_if on fills.task_put src.now kt.old }
 {
     if on {
-        read_lines::read_lines(src, vt, mt, ot, kt);
+        let _ = read_lines::read_lines(src, vt, mt, ot, kt);
     }
 }
 
@@ -43,7 +44,7 @@ pub fn read_plan(
     mt: &mut [u64],
     ot: &mut [u64],
     kt: &mut [u64],
-) -> PlanAnswer
+) -> Result<PlanRecord, Complaint>
     ensures value { result ≡ plan_answer src.now (lent vt.old mt.old ot.old kt.old) }
     ensures vt_after { vt.new ≡ (tables_after src.now (lent vt.old mt.old ot.old kt.old)).vcpus }
     ensures mt_after { mt.new ≡ (tables_after src.now (lent vt.old mt.old ot.old kt.old)).mutexes }

@@ -1,5 +1,5 @@
 -- From the lines of a plan to its items, part by part, and the items with a mark.
-use Rattle.std.specs.Prelude.{ℕ, suc, ◌+◌, ◌≡◌, Bool, true, false, cond, not, eqb}
+use Rattle.std.specs.Prelude.{ℕ, suc, ◌+◌, ◌≡◌, Bool, true, false, cond, not, eqb, Some}
 use Rattle.std.proofs.Math.Path.{refl, ap}
 use Rattle.std.proofs.Common.{◌∙◌, length-append}
 use mathlib.Core.List.{List, [], ◌∷◌, ◌++◌}
@@ -12,7 +12,6 @@ use Rattle.laws.specs.BytesLaws.{pieces_ended}
 use Rattle.plan.specs.Limits.{lf}
 use Rattle.plan.specs.declared.Kind.{Kind}
 use Rattle.plan.specs.declared.Kind.TheVariants.{VcpuLine, MutexG, MutexL, OpenLine, GuestLine, TaskLine, RunLine, LockLine, EndLine}
-use Rattle.plan.specs.declared.Found.TheVariants.{Is}
 use Rattle.plan.specs.Line.{Item, shape, written, line_of}
 use Rattle.plan.specs.declared.Policy.{Policy}
 use Rattle.plan.specs.declared.Policy.TheVariants.{Periodic, Deferrable}
@@ -35,7 +34,7 @@ use Rattle.read_tally.specs.Tally.{Tally, mark_of, tally_by, tallied}
 
 -- what an item says
 abbrev pub say_of : Item → Said
-say_of i = said_as (Is i.kind) i.nums
+say_of i = said_as (Some i.kind) i.nums
 
 unfoldable pub tallied_items : Tally → List Item → Tally
 tallied_items t [] = t

@@ -1,10 +1,8 @@
 -- What is counted of lines: the rows of each table, the policy, the overrun choice, and the locks of the last task.
-use Rattle.std.specs.Prelude.{ℕ, ◌+◌, List, [], ◌∷◌, Bool, cond, ◌&&◌, ◌||◌, eqb, ltb}
+use Rattle.std.specs.Prelude.{ℕ, ◌+◌, List, [], ◌∷◌, Bool, cond, ◌&&◌, ◌||◌, eqb, ltb, Option, Some, None}
 use Rattle.laws.specs.Bytes.{is_nil}
 use Rattle.plan.specs.declared.Kind.{Kind}
 use Rattle.plan.specs.declared.Kind.TheVariants.{PlanLine, PolicyPO, PolicyPN, PolicyDO, PolicyDN, VcpuLine, MutexG, MutexL, OpenLine, GuestLine, TaskLine, RunLine, LockLine, EndLine, AskLine, FreeLine, UseLine, TopLine, ShowLine}
-use Rattle.plan.specs.declared.Found.{Found}
-use Rattle.plan.specs.declared.Found.TheVariants.{Is, Nothing}
 use Rattle.plan.specs.declared.Policy.{Policy}
 use Rattle.plan.specs.declared.Policy.TheVariants.{Periodic, Deferrable}
 use Rattle.plan.specs.declared.OverrunChoice.{OverrunChoice}
@@ -37,9 +35,9 @@ mark_of UseLine = 0
 mark_of TopLine = 0
 mark_of ShowLine = 0
 
-abbrev pub mark_in : Found → ℕ
-mark_in Nothing = 0
-mark_in (Is k) = mark_of k
+abbrev pub mark_in : Option Kind → ℕ
+mark_in None = 0
+mark_in (Some k) = mark_of k
 
 -- THE TALLY
 

@@ -4,7 +4,7 @@
 ghost use Rattle.std.specs.Prelude.{◌≡◌};
 ghost use Rattle.read_tally.specs.Tally as tallies;
 
-use plan::{Found, Kind, OverrunChoice, Policy};
+use plan::{Kind, OverrunChoice, Policy};
 use plan_tables::{MOST, PlanRecord};
 use text_lines::Said;
 
@@ -21,29 +21,22 @@ pub struct Tally {
 }
 
 // The mark of a kind: 1 to 4 the policies, 5 vcpu, 6 mutex, 7 open, 8 task, 9 run, 10 lock, 0 any other.
+#[tactic(auto, unfolding(crate::specs::Tally::mark_of))]
 fn mark_of(kind: Kind) -> u64
     ensures { result ≡ tallies.mark_of kind }
 {
     match kind {
-        Kind::PlanLine => 0,
         Kind::PolicyPO => 1,
         Kind::PolicyPN => 2,
         Kind::PolicyDO => 3,
         Kind::PolicyDN => 4,
         Kind::VcpuLine => 5,
-        Kind::MutexG => 6,
-        Kind::MutexL => 6,
+        Kind::MutexG | Kind::MutexL => 6,
         Kind::OpenLine => 7,
-        Kind::GuestLine => 0,
         Kind::TaskLine => 8,
         Kind::RunLine => 9,
         Kind::LockLine => 10,
-        Kind::EndLine => 0,
-        Kind::AskLine => 0,
-        Kind::FreeLine => 0,
-        Kind::UseLine => 0,
-        Kind::TopLine => 0,
-        Kind::ShowLine => 0,
+        _ => 0,
     }
 }
 
@@ -51,10 +44,9 @@ fn mark_of(kind: Kind) -> u64
 pub fn mark_in(s: Said) -> u64
     ensures { result ≡ tallies.mark_in s.found }
 {
-    let found = s.found;
-    match found {
-        Found::Is(k) => mark_of(k),
-        Found::Nothing => 0,
+    match s.found {
+        Some(k) => mark_of(k),
+        None => 0,
     }
 }
 

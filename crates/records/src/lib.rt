@@ -35,15 +35,14 @@ pub fn no_rows() -> [u64; ROWS]
 pub fn few(n: usize) -> usize
     ensures { result ≡ min n most_tasks }
 {
-    if n < MOST_TASKS { n } else { MOST_TASKS }
+    n.min(MOST_TASKS)
 }
 
 // The least of a, n and the places that there are.
 pub fn few_of(a: usize, n: usize) -> usize
     ensures { result ≡ min a (min n most_tasks) }
 {
-    let k = few(n);
-    if a < k { a } else { k }
+    a.min(few(n))
 }
 
 // How many numbers n records have.
@@ -83,11 +82,9 @@ fn put_row(d: &mut [u64], i: usize, t: Task)
 {
     let k = i * TASK_WIDTH;
     put_five(d, k, t.v, t.n, t.period, t.first, t.count);
-    let mut j = 0;
-    while j < 8 {
+    for j in 0..8 {
         let l = t.locks[j];
         put_three(d, k + FIRST_LOCK + j * LOCK_WIDTH, l.m, l.ticks, l.after);
-        j += 1;
     }
 }
 
@@ -105,10 +102,8 @@ pub fn load(tasks: &[Task], rows: &mut [u64], n: usize) -> usize
     ensures { (result ≡ length (sheet_rows (cut_to (min n most_tasks) tasks.now))) × (rows.new ≡ over (sheet_rows (cut_to (min n most_tasks) tasks.now)) rows.old) }
 {
     let k = few_of(tasks.len(), n);
-    let mut i: usize = 0;
-    while i < k {
+    for i in 0..k {
         put_row(rows, i, task_at(tasks, i));
-        i += 1;
     }
     width(k)
 }

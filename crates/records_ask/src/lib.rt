@@ -8,8 +8,7 @@ ghost use Rattle.records.specs.Sheet.{tables_of};
 ghost use Rattle.records_reply.specs.Replies.{reply_to};
 ghost use Rattle.records_ask.specs.Wanted.{wanted};
 
-use listing_lines::TextAnswer;
-use plan::MOST_TASKS;
+use plan::{MOST_TASKS, Refusal};
 use plan_tables::PlanRecord;
 use records::Task;
 use records_reply::{Question, Replied};
@@ -63,7 +62,7 @@ fn text_in(
     what: Text,
     out: &mut [u8],
     c: usize,
-) -> TextAnswer
+) -> Result<usize, Refusal>
     requires { c ≤ length rows.now }
     ensures { (result ≡ text_asked (wanted what) r (lent vt.now mt.now ot.now (take c rows.now)) out.old)
         × (out.new ≡ text_left (wanted what) r (lent vt.now mt.now ot.now (take c rows.now)) out.old) }
@@ -83,7 +82,7 @@ pub fn write(
     tasks: &[Task],
     what: Text,
     out: &mut [u8],
-) -> TextAnswer
+) -> Result<usize, Refusal>
     ensures value { result ≡ text_asked (wanted what) r (tables_of vt.now mt.now ot.now tasks.now) out.old }
     ensures out_after { out.new ≡ text_left (wanted what) r (tables_of vt.now mt.now ot.now tasks.now) out.old }
 {

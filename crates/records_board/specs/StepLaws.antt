@@ -1,5 +1,5 @@
 -- What the board is told of lent tables is told of as many records as there are places for.
-use Rattle.std.specs.Prelude.{ℕ, ◌≡◌, List}
+use Rattle.std.specs.Prelude.{ℕ, ◌≡◌, List, Ok, Err}
 use Rattle.plan.specs.Limits.{most_tasks}
 use Rattle.plan.specs.declared.Refusal.TheVariants.{Foreign}
 use Rattle.plan_tables.specs.declared.PlanRecord.{PlanRecord}
@@ -9,7 +9,6 @@ use Rattle.board_rules.specs.Facts.{facts_of}
 use Rattle.board_rules.specs.declared.Board.{Board}
 use Rattle.board_rules.specs.declared.Event.{Event}
 use Rattle.board_rules.specs.Board as board
-use Rattle.board_tables.specs.declared.FreshAnswer.TheVariants.{Made, NoBoard}
 use Rattle.board_tables.specs.Entered.{no_board, fresh_for, step_for}
 use Rattle.records.specs.declared.Task.{Task}
 use Rattle.records.specs.Sheet.{cut_to, tables_of}
@@ -24,7 +23,7 @@ module _ (vt mt ot : List ℕ) (ks : List Task) (r : PlanRecord) where
 
   pub fresh_cut : fresh_for r cut ≡ fresh_for r whole
   unfolding fresh_for
-  fresh_cut = cut_told vt mt ot ks (λ p. record { answer = Made; board = board.fresh (facts_of (system p)) }) (record { answer = NoBoard Foreign; board = no_board }) r
+  fresh_cut = cut_told vt mt ot ks (λ p. record { answer = Ok tt; board = board.fresh (facts_of (system p)) }) (record { answer = Err Foreign; board = no_board }) r
 
   pub step_cut : (b : Board) (e : Event) → step_for r cut b e ≡ step_for r whole b e
   unfolding step_for

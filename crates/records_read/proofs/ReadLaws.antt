@@ -1,6 +1,6 @@
 -- Reading a plan into records is reading it into the rows of numbers that they stand for.
 use Prim.Native.Nat.{ℕ, ◌*◌, ◌≤◌}
-use Rattle.std.specs.Prelude.{◌≡◌, Bool, ◌&&◌, take}
+use Rattle.std.specs.Prelude.{◌≡◌, Bool, ◌&&◌, take, Result, Ok, Err}
 use Rattle.std.proofs.Math.Path.{refl, ap, sym}
 use Rattle.std.proofs.Common.{ap₂, ◌∙◌, leb-true, le-leb, take-append-drop, length-take-le, drop_at}
 use mathlib.Core.List.{List, ◌++◌, append_assoc}
@@ -28,8 +28,6 @@ use Rattle.plan_tables.proofs.LayoutLaws.{task_wide}
 use Rattle.plan_tables.specs.Given.{roomy_by, roomy, is_given}
 use Rattle.plan_tables.proofs.Sound.{given_sound}
 use Rattle.plan_tables.proofs.GivenLaws.{valid_few, roomy_exactly}
-use Rattle.read_answer.specs.declared.PlanAnswer.{PlanAnswer}
-use Rattle.read_answer.specs.declared.PlanAnswer.TheVariants.{Accepted, Refused}
 use Rattle.read_answer.specs.Into.{answer_into, tables_into, plan_answer, tables_after}
 use Rattle.read_answer.specs.Claims.{refusal_leaves, acceptance_leaves, accepted_with_room, accepted_given}
 use Rattle.records.specs.declared.Task.{Task}
@@ -59,7 +57,7 @@ pub count_few : (s : List ℕ) (t : Tables) → count_of (plan_answer s t) ≤ m
 unfolding plan_answer
 count_few s t = by_reading s (λ r. count_of (answer_into r t) ≤ max_tasks) (λ x. omega arith) (λ p h. go p h (roomy (record_of p) t))
   where
-    go : (p : Plan) → Valid p → (b : Bool) → count_of (if b then Accepted (record_of p) else Refused no_room) ≤ max_tasks
+    go : (p : Plan) → Valid p → (b : Bool) → count_of (if b then Ok (record_of p) else Err no_room) ≤ max_tasks
     go p h true = few p h
     go p h false = omega arith
 
@@ -90,14 +88,14 @@ module _ (s vt mt ot : List ℕ) (ks : List Task) (u : List ℕ) (long : length 
   unfolding plan_answer
   answer_same =
       by_reading s (λ r. answer_into r nums ≡ answer_into r recs) (λ x. refl)
-      (λ p h. ap (λ b. if b then Accepted (record_of p) else Refused no_room) (room_same p h))
+      (λ p h. ap (λ b. if b then Ok (record_of p) else Err no_room) (room_same p h))
 
   -- the tables where b says that there is room
   abbrev left : Plan → Tables → Bool → Tables
   left p t b = if b then filled p t else t
 
-  abbrev told : Plan → Bool → PlanAnswer
-  told p b = if b then Accepted (record_of p) else Refused no_room
+  abbrev told : Plan → Bool → Result PlanRecord Complaint
+  told p b = if b then Ok (record_of p) else Err no_room
 
   others_same : (p : Plan) (b : Bool) → ((left p nums b).vcpus ≡ (left p recs b).vcpus) × ((left p nums b).mutexes ≡ (left p recs b).mutexes) × ((left p nums b).opens ≡ (left p recs b).opens)
   unfolding filled
@@ -148,7 +146,7 @@ module _ (s vt mt ot : List ℕ) (ks : List Task) (u : List ℕ) (long : length 
       go p h false e = omega arith
 
 -- FROM THE READER INTO NUMBERS TO THE READER INTO RECORDS
-module _ (s vt mt ot : List ℕ) (ks : List Task) (a : PlanAnswer) (v m o w : List ℕ) (h : ReadIn s vt mt ot no_rows (length ks) a v m o w) (n : ℕ) (e : n ≡ count_of a) where
+module _ (s vt mt ot : List ℕ) (ks : List Task) (a : Result PlanRecord Complaint) (v m o w : List ℕ) (h : ReadIn s vt mt ot no_rows (length ks) a v m o w) (n : ℕ) (e : n ≡ count_of a) where
   abbrev u : List ℕ
   u = take (nums_for (length ks)) no_rows
 
@@ -200,7 +198,7 @@ module _ (s vt mt ot : List ℕ) (ks : List Task) where
   abbrev into : Tables
   into = tables_of vt mt ot ks
 
-  accepted_rows : (r : PlanRecord) → plan_answer s into ≡ Accepted r → sheet_rows (saved ks (tables_after s into).tasks r.tasks) ≡ (tables_after s into).tasks
+  accepted_rows : (r : PlanRecord) → plan_answer s into ≡ Ok r → sheet_rows (saved ks (tables_after s into).tasks r.tasks) ≡ (tables_after s into).tasks
   accepted_rows r e =
       let g = given_sound r (tables_after s into) (accepted_given s into r e) in
       let w = (accepted_with_room s into r).0 e in
@@ -212,9 +210,9 @@ module _ (s vt mt ot : List ℕ) (ks : List Task) where
   unfolding sheets_after
   sheets_rows = go (plan_answer s into) refl
     where
-      go : (a : PlanAnswer) → plan_answer s into ≡ a → sheet_rows (sheets_after s vt mt ot ks) ≡ (tables_after s into).tasks
-      go (Accepted r) e = ap (λ a. sheet_rows (saved ks (tables_after s into).tasks (count_of a))) e ∙ accepted_rows r e
-      go (Refused x) e = ap sheet_rows (sheets_kept s vt mt ot ks x e) ∙ sym (ap (λ u. u.tasks) (refusal_leaves s into x e))
+      go : (a : Result PlanRecord Complaint) → plan_answer s into ≡ a → sheet_rows (sheets_after s vt mt ot ks) ≡ (tables_after s into).tasks
+      go (Ok r) e = ap (λ a. sheet_rows (saved ks (tables_after s into).tasks (count_of a))) e ∙ accepted_rows r e
+      go (Err x) e = ap sheet_rows (sheets_kept s vt mt ot ks x e) ∙ sym (ap (λ u. u.tasks) (refusal_leaves s into x e))
 
   -- so that the tables with these records are those that reading leaves
   pub sheets_left : tables_of (tables_after s into).vcpus (tables_after s into).mutexes (tables_after s into).opens (sheets_after s vt mt ot ks) ≡ tables_after s into
@@ -222,6 +220,6 @@ module _ (s vt mt ot : List ℕ) (ks : List Task) where
 
   -- and after an accepted plan they pass the test for 9
   pub sheets_given :
-      (r : PlanRecord) → plan_answer s into ≡ Accepted r →
+      (r : PlanRecord) → plan_answer s into ≡ Ok r →
       is_given r (tables_of (tables_after s into).vcpus (tables_after s into).mutexes (tables_after s into).opens (sheets_after s vt mt ot ks)) ≡ true
   sheets_given r e = ap (is_given r) sheets_left ∙ accepted_given s into r e

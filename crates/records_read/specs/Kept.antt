@@ -1,6 +1,6 @@
 -- What reading leaves of lent records. Of the other three tables: `refusal_leaves`, `acceptance_leaves` (read_answer/Claims).
 use Prim.Native.Nat.{ℕ}
-use Rattle.std.specs.Prelude.{◌≡◌}
+use Rattle.std.specs.Prelude.{◌≡◌, Ok, Err}
 use Rattle.std.proofs.Math.Path.{ap, sym}
 use Rattle.std.proofs.Common.{◌∙◌}
 use mathlib.Core.List.{List}
@@ -11,7 +11,6 @@ use Rattle.laws.specs.RowLaws.{rows_length}
 use Rattle.plan.specs.declared.Complaint.{Complaint}
 use Rattle.plan_tables.specs.declared.PlanRecord.{PlanRecord}
 use Rattle.plan_tables.specs.Layout.{Tables}
-use Rattle.read_answer.specs.declared.PlanAnswer.TheVariants.{Accepted, Refused}
 use Rattle.read_answer.specs.Into.{plan_answer, tables_after}
 use Rattle.records.specs.declared.Task.{Task}
 use Rattle.records.specs.Sheet.{tables_of, task_of, saved}
@@ -23,12 +22,12 @@ module _ (s vt mt ot : List ℕ) (ks : List Task) where
   lent_to = tables_of vt mt ot ks
 
   -- "Every refusal leaves the lent tables .. as they were lent": the records
-  pub sheets_kept : (x : Complaint) → plan_answer s lent_to ≡ Refused x → sheets_after s vt mt ot ks ≡ ks
+  pub sheets_kept : (x : Complaint) → plan_answer s lent_to ≡ Err x → sheets_after s vt mt ot ks ≡ ks
   unfolding sheets_after
   sheets_kept x e = ap (λ a. saved ks (tables_after s lent_to).tasks (count_of a)) e ∙ sym (saved_none ks (tables_after s lent_to).tasks)
 
   -- "An accepted plan leaves table rows beyond its count untouched": the records
-  pub sheets_beyond : (r : PlanRecord) → plan_answer s lent_to ≡ Accepted r → drop r.tasks (sheets_after s vt mt ot ks) ≡ drop r.tasks ks
+  pub sheets_beyond : (r : PlanRecord) → plan_answer s lent_to ≡ Ok r → drop r.tasks (sheets_after s vt mt ot ks) ≡ drop r.tasks ks
   unfolding sheets_after saved
   sheets_beyond r e =
       let t : List ℕ = (tables_after s lent_to).tasks in

@@ -1,5 +1,5 @@
 -- Reading into tables with room for every plan: what is accepted lies there whole, and what is refused is refused by the reading.
-use Rattle.std.specs.Prelude.{ℕ, List, Bool}
+use Rattle.std.specs.Prelude.{ℕ, List, Bool, Result, Ok, Err}
 use Rattle.std.proofs.Math.Path.{◌≡◌, refl}
 use Rattle.std.proofs.Common.{sym, ap, ◌∙◌, arith}
 use Rattle.std.proofs.Math.Bool.{true, false}
@@ -15,8 +15,6 @@ use Rattle.plan_tables.specs.Layout.{Tables, lent, record_of}
 use Rattle.plan_tables.specs.Given.{Gives, plan_in, is_given, roomy}
 use Rattle.plan_tables.proofs.GivenLaws.{plan_given}
 use Rattle.read_fill.specs.Fill.{vcpu_put, mutex_put, open_put, task_put}
-use Rattle.read_answer.specs.declared.PlanAnswer.{PlanAnswer}
-use Rattle.read_answer.specs.declared.PlanAnswer.TheVariants.{Accepted, Refused}
 use Rattle.read_answer.specs.Into.{answer_into, plan_answer, tables_after}
 use Rattle.read_answer.specs.Judged.{lines_left}
 use Rattle.read_answer.specs.Ample.{Ample, ample_roomy, accepted_left}
@@ -36,7 +34,7 @@ pub record Lies (s : List ℕ) (r : PlanRecord) (t : Tables) (p : Plan) : Type 0
   pub holds : system_in r t.vcpus t.mutexes t.tasks ≡ system p
 
 module _ (s : List ℕ) (t : Tables) (a : Ample t) where
-  accepted_lies : (r : PlanRecord) → plan_answer s t ≡ Accepted r → (p : Plan) × Lies s r (tables_after s t) p
+  accepted_lies : (r : PlanRecord) → plan_answer s t ≡ Ok r → (p : Plan) × Lies s r (tables_after s t) p
   accepted_lies r h =
       let w = accepted_gives s t r h in
       let g : is_given r (tables_after s t) ≡ true = accepted_given s t r h in (
@@ -53,24 +51,24 @@ module _ (s : List ℕ) (t : Tables) (a : Ample t) where
       )
 
   -- 8 is never given: there is room
-  pub refused_reads : (x : Complaint) → plan_answer s t ≡ Refused x → reading s ≡ Refuses x
+  pub refused_reads : (x : Complaint) → plan_answer s t ≡ Err x → reading s ≡ Refuses x
   unfolding plan_answer
   refused_reads x h = go (reading s) refl h
     where
-      at : (p : Plan) → (b : Bool) → b ≡ true → (if b then Accepted (record_of p) else Refused no_room) ≡ Refused x → Accepts p ≡ Refuses x
+      at : (p : Plan) → (b : Bool) → b ≡ true → (if b then Ok (record_of p) else Err no_room) ≡ Err x → Accepts p ≡ Refuses x
       at p true e h = absurd (let z : ◌≡◌ {A = ℕ} 0 1 = cc in omega arith)
       at p false e h = absurd (let z : ◌≡◌ {A = ℕ} 0 1 = cc in omega arith)
 
-      go : (y : Reading) → reading s ≡ y → answer_into y t ≡ Refused x → y ≡ Refuses x
+      go : (y : Reading) → reading s ≡ y → answer_into y t ≡ Err x → y ≡ Refuses x
       go (Accepts p) e h = at p (roomy (record_of p) t) (ample_roomy p t (read_text_law s p e).0 a) h
       go (Refuses y) e h = cc
 
 -- the tables of an accepted plan pass the test for 9
-pub record Sure (a : PlanAnswer) (t : Tables) : Type 0 where
-  pub given : (r : PlanRecord) → a ≡ Accepted r → is_given r t ≡ true
+pub record Sure (a : Result PlanRecord Complaint) (t : Tables) : Type 0 where
+  pub given : (r : PlanRecord) → a ≡ Ok r → is_given r t ≡ true
 
 -- of a reading into tables with room for every plan: what it answers, and the rows that its lines leave
-module _ (s : List ℕ) {vt mt ot ts : List ℕ} (l : Ample (lent vt mt ot ts)) {a : PlanAnswer} {vu mu ou tu : List ℕ}
+module _ (s : List ℕ) {vt mt ot ts : List ℕ} (l : Ample (lent vt mt ot ts)) {a : Result PlanRecord Complaint} {vu mu ou tu : List ℕ}
     (h : a ≡ plan_answer s (lent vt mt ot ts)) (v : vu ≡ lines_left vcpu_put s vt) (m : mu ≡ lines_left mutex_put s mt)
     (o : ou ≡ lines_left open_put s ot) (k : tu ≡ lines_left task_put s ts) where
   abbrev into : Tables
@@ -79,13 +77,13 @@ module _ (s : List ℕ) {vt mt ot ts : List ℕ} (l : Ample (lent vt mt ot ts)) 
   abbrev left : Tables
   left = lent vu mu ou tu
 
-  left_is : (r : PlanRecord) → a ≡ Accepted r → left ≡ tables_after s into
+  left_is : (r : PlanRecord) → a ≡ Ok r → left ≡ tables_after s into
   left_is r e =
       let w : left ≡ lent (lines_left vcpu_put s vt) (lines_left mutex_put s mt) (lines_left open_put s ot) (lines_left task_put s ts) =
       λ i. lent (v i) (m i) (o i) (k i) in
       w ∙ accepted_left s into r (sym h ∙ e)
 
-  pub left_lies : (r : PlanRecord) → a ≡ Accepted r → (p : Plan) × Lies s r left p
+  pub left_lies : (r : PlanRecord) → a ≡ Ok r → (p : Plan) × Lies s r left p
   left_lies r e = rw (left_is r e) (accepted_lies s into l r (sym h ∙ e))
 
   pub left_sure : Sure a left

@@ -10,16 +10,17 @@ ghost use Rattle.read_answer.specs.Judged.{lines_left};
 ghost use Rattle.read_answer.specs.Ample.{Ample};
 ghost use Rattle.records_read.specs.After.{count_of, ReadIn, ReadOut};
 
-use read_answer::PlanAnswer;
+use plan::Complaint;
+use plan_tables::PlanRecord;
 use records::Task;
 
 // How many records an answer writes.
-fn count_of(a: PlanAnswer) -> usize
+fn count_of(a: Result<PlanRecord, Complaint>) -> usize
     ensures { result ≡ count_of a }
 {
     match a {
-        PlanAnswer::Accepted(r) => r.tasks,
-        PlanAnswer::Refused(_) => 0,
+        Ok(r) => r.tasks,
+        Err(_) => 0,
     }
 }
 
@@ -31,7 +32,7 @@ fn read_in(
     ot: &mut [u64],
     rows: &mut [u64],
     n: usize,
-) -> PlanAnswer
+) -> Result<PlanRecord, Complaint>
     requires { most_tasks * task_width ≤ length rows.old }
     ensures { ReadIn src.now vt.old mt.old ot.old rows.old n result vt.new mt.new ot.new rows.new }
 {
@@ -46,7 +47,7 @@ pub fn read_plan(
     mt: &mut [u64],
     ot: &mut [u64],
     tasks: &mut [Task],
-) -> PlanAnswer
+) -> Result<PlanRecord, Complaint>
     ensures { ReadOut src.now vt.old mt.old ot.old tasks.old result vt.new mt.new ot.new tasks.new }
 {
     let mut rows = records::no_rows();
@@ -63,7 +64,7 @@ pub fn read_rows(
     mt: &mut [u64],
     ot: &mut [u64],
     rows: &mut [u64],
-) -> PlanAnswer
+) -> Result<PlanRecord, Complaint>
     requires { Ample (lent vt.old mt.old ot.old rows.old) }
     ensures value { result ≡ plan_answer src.now (lent vt.old mt.old ot.old rows.old) }
     ensures vt_after { vt.new ≡ lines_left vcpu_put src.now vt.old }

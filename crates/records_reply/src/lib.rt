@@ -5,9 +5,11 @@ ghost use Rattle.std.specs.Prelude.{◌≡◌};
 ghost use Rattle.plan_tables.specs.Layout.{lent};
 ghost use Rattle.records_reply.specs.Replies.{reply_to};
 
-use answers_tasks::{FigureAnswer, RowAnswer, TaskRowAnswer};
 use clock_rules::RunAnswer;
+use figures::TaskAnswer;
+use plan::Refusal;
 use plan_tables::PlanRecord;
+use search::Answer;
 
 // What may be asked of lent tables: the test for 9, how late a VCPU can finish, how long task (v, n) can wait at a lock place, how late it can finish, the response of its global section at a lock place, and the run to horizon h on a clock.
 #[derive(Clone, Copy)]
@@ -24,9 +26,9 @@ pub enum Question {
 #[derive(Clone, Copy)]
 pub enum Replied {
     Given(bool),
-    Row(RowAnswer),
-    TaskRow(TaskRowAnswer),
-    Figure(FigureAnswer),
+    Row(Result<Answer, Refusal>),
+    TaskRow(Result<TaskAnswer, Refusal>),
+    Figure(Result<u64, Refusal>),
     Run(RunAnswer),
 }
 

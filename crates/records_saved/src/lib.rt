@@ -55,11 +55,9 @@ pub fn save(tasks: &mut [Task], rows: &[u64], n: usize)
     requires { (n ≤ most_tasks) × (n ≤ length tasks.old) }
     ensures { tasks.new ≡ saved tasks.old rows.now n }
 {
-    let mut i: usize = 0;
-    while i < n {
+    for i in 0..n {
         let t = task_of(rows, i);
         tasks[i] = t;
-        i += 1;
     }
 }
 
@@ -99,9 +97,7 @@ pub fn all_kept(rows: &mut [u64], n: usize)
     requires { (n ≤ most_tasks) × (n * task_width ≤ length rows.old) }
     ensures { rows.new ≡ rows.old }
 {
-    let mut i: usize = 0;
-    while i < n {
+    for i in (0..n).step_by(8) {
         kept(&mut rows[i * TASK_WIDTH..], records::few_of(8, n - i));
-        i += 8;
     }
 }

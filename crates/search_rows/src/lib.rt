@@ -12,7 +12,7 @@ const CAP: u64 = 1_000_001;
 fn capped(a: u64) -> u64
     ensures { result ≡ min a cap }
 {
-    if a < CAP { a } else { CAP }
+    a.min(CAP)
 }
 
 // a / b, rounded up.
@@ -20,7 +20,7 @@ fn div_up(a: u64, b: u64) -> u64
     requires { 1 ≤ b }
     ensures { result ≡ up a b }
 {
-    if a == 0 { 0 } else { (a - 1) / b + 1 }
+    a.div_ceil(b)
 }
 
 // Row n is (shift, period, cost).
@@ -53,13 +53,11 @@ pub fn demand(base: u64, rows: &[u64], n: usize, t: u64) -> u64
     ensures { result ≡ min (rows_demand base (rows_in rows.now n) t) cap }
 {
     let mut total = capped(base);
-    let mut k = 0;
-    while k < n {
+    for k in 0..n {
         total += share_of(rows, k, t);
         if total >= CAP {
             return CAP;
         }
-        k += 1;
     }
     total
 }

@@ -35,12 +35,9 @@ pub fn put(out: &mut [u8], w: &[u8]) -> usize
     requires { length w.now ≤ length out.old }
     ensures { Wrote w.now out.old out.new result }
 {
-    let mut i = 0;
-    while i < w.len() {
-        out[i] = w[i];
-        i += 1;
-    }
-    i
+    let n = w.len();
+    out[..n].copy_from_slice(w);
+    n
 }
 
 // Writes n in decimal, digit after digit.

@@ -1,18 +1,17 @@
 -- A line as code tests it: each number by its field, once its kind is found by tabs and words.
-use Rattle.std.specs.Prelude.{ℕ, List, Bool, true, false, ◌&&◌, eqb, ltb}
+use Rattle.std.specs.Prelude.{ℕ, List, Bool, true, false, ◌&&◌, eqb, ltb, Option, Some, None}
+use Rattle.plan.specs.declared.Kind.{Kind}
 use Rattle.laws.specs.Choice.{when}
 use Rattle.laws.specs.Fields.{before, after}
 use Rattle.plan.specs.Limits.{tab}
-use Rattle.plan.specs.declared.Found.{Found}
-use Rattle.plan.specs.declared.Found.TheVariants.{Is, Nothing}
 use Rattle.plan.specs.Line.{number_at, shape, size}
 use Rattle.text_lines.specs.Said.{Said}
 use Rattle.text_words.specs.Keys.{kind_at}
 
 -- how many numbers a line of this kind has
-abbrev pub size_in : Found → ℕ
-size_in Nothing = 0
-size_in (Is k) = size (shape k)
+abbrev pub size_in : Option Kind → ℕ
+size_in None = 0
+size_in (Some k) = size (shape k)
 
 unfoldable pub pick_of : Bool → List ℕ → List ℕ → List ℕ
 pick_of true s t = s
@@ -24,7 +23,7 @@ place_of true = 4
 place_of false = 3
 
 -- WHAT IS SAID by a line with c tabs and n numbers, of the fields x, y, z, p, q after its word: of two numbers on three tabs the second stands in z
-unfoldable pub said_by : ℕ → ℕ → Found → List ℕ → List ℕ → List ℕ → List ℕ → List ℕ → Said
+unfoldable pub said_by : ℕ → ℕ → Option Kind → List ℕ → List ℕ → List ℕ → List ℕ → List ℕ → Said
 said_by c n f x y z p q =
     record {
       found = f;
@@ -36,7 +35,7 @@ said_by c n f x y z p q =
     }
 
 -- of the fields x, y and what follows them
-unfoldable pub said_fields : ℕ → Found → List ℕ → List ℕ → List ℕ → Said
+unfoldable pub said_fields : ℕ → Option Kind → List ℕ → List ℕ → List ℕ → Said
 said_fields c f x y v = said_by c (size_in f) f x y (before tab v) (before tab (after tab v)) (before tab (after tab (after tab v)))
 
 -- of the first field and what follows it

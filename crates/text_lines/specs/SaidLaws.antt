@@ -1,7 +1,6 @@
 -- What is said is the line's item; and what code reads, field by field, is what is said.
-use Rattle.std.specs.Prelude.{ℕ, zero, suc, pred, ◌+◌, ◌≡◌, refl, List, [], ◌∷◌, true, length}
+use Rattle.std.specs.Prelude.{ℕ, zero, suc, pred, ◌+◌, ◌≡◌, refl, List, [], ◌∷◌, true, length, Option, Some, None}
 use Rattle.std.proofs.Common.{ap, ◌∙◌, arith}
-use Rattle.std.proofs.Math.Option.{some}
 use Rattle.laws.specs.BoolLaws.{both_right}
 use Rattle.laws.specs.Bytes.{pieces, same}
 use Rattle.laws.specs.Choice.{when}
@@ -10,8 +9,6 @@ use Rattle.laws.specs.Steps.{pieces_fields, pieces_length}
 use Rattle.plan.specs.Limits.{tab}
 use Rattle.plan.specs.declared.Kind.{Kind}
 use Rattle.plan.specs.declared.Kind.TheVariants.{PlanLine, PolicyPO, PolicyPN, PolicyDO, PolicyDN, VcpuLine, MutexG, MutexL, OpenLine, GuestLine, TaskLine, RunLine, LockLine, EndLine, AskLine, FreeLine, UseLine, TopLine, ShowLine}
-use Rattle.plan.specs.declared.Found.{Found}
-use Rattle.plan.specs.declared.Found.TheVariants.{Is, Nothing}
 use Rattle.plan.specs.Line.{Form, Word, Num, Item, shape, kinds, has_shape, number_at, numbers, kind_in, item_from, item_of}
 use Rattle.plan.specs.Rules.{nth}
 use Rattle.text_lines.specs.Said.{numbers_in, said_as, said_of, said_item, item_said}
@@ -49,8 +46,8 @@ as_nums k ns = nums_of k (nth 0 ns) (nth 1 ns) (nth 2 ns) (nth 3 ns) (nth 4 ns)
 abbrev Read : Kind → Type 0
 Read k =
     (l : List ℕ) →
-    (said_as (Is k) (numbers_by 1 (shape k) l)
-    ≡ said_by (pred (length (shape k))) (size (shape k)) (Is k) (field tab 1 l) (field tab 2 l) (field tab 3 l) (field tab 4 l) (field tab 5 l))
+    (said_as (Some k) (numbers_by 1 (shape k) l)
+    ≡ said_by (pred (length (shape k))) (size (shape k)) (Some k) (field tab 1 l) (field tab 2 l) (field tab 3 l) (field tab 4 l) (field tab 5 l))
     × (numbers_by 1 (shape k) l ≡ as_nums k (numbers_by 1 (shape k) l))
 
 read_kind : (k : Kind) → Read k
@@ -79,7 +76,7 @@ read_kind k =
     ]
 
 -- a line of a kind: its tabs, and its numbers
-module _ (l : List ℕ) (k : Kind) (h : kind_in kinds (pieces tab l) ≡ Is k) where
+module _ (l : List ℕ) (k : Kind) (h : kind_in kinds (pieces tab l) ≡ Some k) where
   forms : length (shape k) ≡ suc (count tab l)
   forms = has_length (shape k) (pieces tab l) (kind_has kinds (pieces tab l) k h) ∙ pieces_length tab l
 
@@ -91,13 +88,13 @@ module _ (l : List ℕ) (k : Kind) (h : kind_in kinds (pieces tab l) ≡ Is k) w
   numbers_nums = rw line_numbers (read_kind k l).1
 
   said_kind :
-      said_as (Is k) (numbers 1 (shape k) (pieces tab l))
-      ≡ said_by (count tab l) (size (shape k)) (Is k) (field tab 1 l) (field tab 2 l) (field tab 3 l) (field tab 4 l) (field tab 5 l)
+      said_as (Some k) (numbers 1 (shape k) (pieces tab l))
+      ≡ said_by (count tab l) (size (shape k)) (Some k) (field tab 1 l) (field tab 2 l) (field tab 3 l) (field tab 4 l) (field tab 5 l)
   said_kind =
       let n : count tab l ≡ pred (length (shape k)) = omega (arith, forms) in
       rw (line_numbers, n) (read_kind k l).0
 
-said_nothing : (c : ℕ) (x y z p q : List ℕ) → said_as Nothing [] ≡ said_by c 0 Nothing x y z p q
+said_nothing : (c : ℕ) (x y z p q : List ℕ) → said_as None [] ≡ said_by c 0 None x y z p q
 unfolding said_by when
 said_nothing c x y z p q = refl
 
@@ -110,10 +107,10 @@ unfolding said_of
 said_code l = go (kind_in kinds (pieces tab l)) refl
   where
     go :
-        (f : Found) → kind_in kinds (pieces tab l) ≡ f →
+        (f : Option Kind) → kind_in kinds (pieces tab l) ≡ f →
         said_as f (numbers_in (pieces tab l) f) ≡ said_by (count tab l) (size_in f) f (field tab 1 l) (field tab 2 l) (field tab 3 l) (field tab 4 l) (field tab 5 l)
-    go Nothing e = said_nothing (count tab l) (field tab 1 l) (field tab 2 l) (field tab 3 l) (field tab 4 l) (field tab 5 l)
-    go (Is k) e = said_kind l k e
+    go None e = said_nothing (count tab l) (field tab 1 l) (field tab 2 l) (field tab 3 l) (field tab 4 l) (field tab 5 l)
+    go (Some k) e = said_kind l k e
 
 -- WHAT IS SAID is the item, and the item is what is said
 pub said_item_law : (l : List ℕ) → item_of l ≡ said_item (said_of l)
@@ -121,17 +118,17 @@ unfolding said_of item_of
 said_item_law l = go (kind_in kinds (pieces tab l)) refl
   where
     go :
-        (f : Found) → kind_in kinds (pieces tab l) ≡ f → item_from (pieces tab l) f ≡ said_item (said_as f (numbers_in (pieces tab l) f))
-    go Nothing e = refl
-    go (Is k) e = ap (λ ns. some (record { kind = k; nums = ns })) (numbers_nums l k e)
+        (f : Option Kind) → kind_in kinds (pieces tab l) ≡ f → item_from (pieces tab l) f ≡ said_item (said_as f (numbers_in (pieces tab l) f))
+    go None e = refl
+    go (Some k) e = ap (λ ns. Some (record { kind = k; nums = ns })) (numbers_nums l k e)
 
 pub item_said_law : (l : List ℕ) → said_of l ≡ item_said (item_of l)
 unfolding said_of item_of
 item_said_law l = go (kind_in kinds (pieces tab l))
   where
-    go : (f : Found) → said_as f (numbers_in (pieces tab l) f) ≡ item_said (item_from (pieces tab l) f)
-    go Nothing = refl
-    go (Is k) = refl
+    go : (f : Option Kind) → said_as f (numbers_in (pieces tab l) f) ≡ item_said (item_from (pieces tab l) f)
+    go None = refl
+    go (Some k) = refl
 
-pub item_is : (l : List ℕ) (i : Item) → item_of l ≡ some i → said_of l ≡ said_as (Is i.kind) i.nums
+pub item_is : (l : List ℕ) (i : Item) → item_of l ≡ Some i → said_of l ≡ said_as (Some i.kind) i.nums
 item_is l i h = item_said_law l ∙ ap item_said h

@@ -8,27 +8,20 @@ ghost use Rattle.plan.specs.Line.{number_at};
 ghost use Rattle.text_lines.specs.Code as code;
 ghost use Rattle.text_lines.specs.Said.{said_of};
 
-use plan::{Found, TAB};
+use plan::{Kind, TAB};
 
 // Where the first `b` of `s` stands; the length of `s` where there is none.
 pub fn cut(s: &[u8], b: u8) -> usize
     ensures { result ≡ length (before b s.now) }
 {
-    let mut i = 0;
-    while i < s.len() {
-        if s[i] == b {
-            return i;
-        }
-        i += 1;
-    }
-    i
+    s.iter().position(|x| *x == b).unwrap_or(s.len())
 }
 
 // The first n bytes, all of them where there are fewer.
 fn upto(s: &[u8], n: usize) -> &[u8]
     ensures { result.now ≡ take n s.now }
 {
-    if n < s.len() { &s[..n] } else { s }
+    &s[..n.min(s.len())]
 }
 
 // The bytes after the n-th, none where there are no more.
@@ -58,21 +51,13 @@ fn tail(s: &[u8], b: u8) -> &[u8]
 fn tally(s: &[u8], b: u8) -> usize
     ensures { result ≡ count b s.now }
 {
-    let mut n = 0;
-    let mut i = 0;
-    while i < s.len() {
-        if s[i] == b {
-            n += 1;
-        }
-        i += 1;
-    }
-    n
+    s.iter().filter(|x| **x == b).count()
 }
 
 // What a line says: its kind, and its numbers from left to right, 0 where there are fewer.
 #[derive(Clone, Copy)]
 pub struct Said {
-    pub found: Found,
+    pub found: Option<Kind>,
     pub a: u64,
     pub b: u64,
     pub c: u64,
@@ -81,12 +66,12 @@ pub struct Said {
 }
 
 // How many numbers the line has.
-fn size_in(found: Found) -> u64
+fn size_in(found: Option<Kind>) -> u64
     ensures { result ≡ code.size_in found }
 {
     match found {
-        Found::Is(k) => text_written::size_of(k),
-        Found::Nothing => 0,
+        Some(k) => text_written::size_of(k),
+        None => 0,
     }
 }
 
@@ -115,7 +100,7 @@ fn place(later: bool) -> u8
 fn said_by<'a>(
     c: usize,
     n: u64,
-    found: Found,
+    found: Option<Kind>,
     x: &[u8],
     y: &'a [u8],
     z: &'a [u8],
@@ -137,7 +122,7 @@ fn said_by<'a>(
 }
 
 // The same, of the fields x, y and what follows them.
-fn said_fields<'a>(c: usize, found: Found, x: &[u8], y: &'a [u8], v: &'a [u8]) -> Said
+fn said_fields<'a>(c: usize, found: Option<Kind>, x: &[u8], y: &'a [u8], v: &'a [u8]) -> Said
     ensures { result ≡ code.said_fields c found x.now y.now v.now }
 {
     let n = cut(v, TAB);

@@ -23,15 +23,13 @@ fn digits(s: &[u8], none: u64) -> u64
     ensures { result ≡ scan none 0 s.now }
 {
     let mut v: u64 = 0;
-    let mut i = 0;
-    while i < s.len() {
-        let d = digit_of(s[i]);
+    for x in s {
+        let d = digit_of(*x);
         if d < 10 {
             v = v * 10 + d;
         } else {
             return none;
         }
-        i += 1;
     }
     v
 }

@@ -1,5 +1,5 @@
 -- The kind that code finds, by tabs and keys, is the kind of the line.
-use Rattle.std.specs.Prelude.{ℕ, zero, suc, pred, ◌<◌, ◌≡◌, refl, List, [], ◌∷◌, Bool, true, false, cond, ◌&&◌, eqb, ltb, length}
+use Rattle.std.specs.Prelude.{ℕ, zero, suc, pred, ◌<◌, ◌≡◌, refl, List, [], ◌∷◌, Bool, true, false, cond, ◌&&◌, eqb, ltb, length, Option, Some, None}
 use Rattle.std.proofs.Common.{ap, ◌∙◌, arith, eqb-true, ltb-true}
 use Rattle.std.proofs.Math.Bool.{and-false, and-true}
 use Rattle.std.proofs.lemmas.Bool.{eqb-false}
@@ -9,8 +9,6 @@ use Rattle.laws.specs.Fields.{before, after, count, field, fields_to}
 use Rattle.laws.specs.Steps.{pieces_fields}
 use Rattle.plan.specs.Limits.{tab}
 use Rattle.plan.specs.declared.Kind.{Kind}
-use Rattle.plan.specs.declared.Found.{Found}
-use Rattle.plan.specs.declared.Found.TheVariants.{Is, Nothing}
 use Rattle.plan.specs.Line.{Form, Word, Num, shape, kinds, has_shape, kind_in}
 use Rattle.text_words.specs.Keys.{key_of, first_of, kind_at, line_kind, table_kind, sheet_kind, event_kind}
 use Rattle.text_words.specs.KeyLaws.{small, proper, small_before, small_after, same_key}
@@ -75,11 +73,11 @@ unfoldable all_plain : List Kind → Bool
 all_plain [] = true
 all_plain (k ∷ ks) = plain (shape k) && all_plain ks
 
-unfoldable kind_by : List Kind → List ℕ → Found
-kind_by [] l = Nothing
+unfoldable kind_by : List Kind → List ℕ → Option Kind
+kind_by [] l = None
 kind_by (k ∷ ks) l = first_of (eqb (count tab l) (pred (length (shape k))) && keyed (shape k) l) k (kind_by ks l)
 
-cond_first : (b : Bool) (k : Kind) (rest : Found) → cond b (Is k) rest ≡ first_of b k rest
+cond_first : (b : Bool) (k : Kind) (rest : Option Kind) → cond b (Some k) rest ≡ first_of b k rest
 unfolding first_of
 cond_first true k rest = refl
 cond_first false k rest = refl
@@ -95,7 +93,7 @@ unfolding all_plain shape keys small
 all_plain_law = refl
 
 -- one kind tried, and the rest
-pub first_then : (b : Bool) (k : Kind) {rest more r : Found} → r ≡ first_of b k rest → rest ≡ more → r ≡ first_of b k more
+pub first_then : (b : Bool) (k : Kind) {rest more r : Option Kind} → r ≡ first_of b k rest → rest ≡ more → r ≡ first_of b k more
 first_then b k e f = e ∙ ap (first_of b k) f
 
 -- THE KIND, of a line of bytes

@@ -4,7 +4,7 @@
 ghost use Rattle.std.specs.Prelude.{◌≡◌};
 ghost use Rattle.text_words.specs.Keys as keys;
 
-use plan::{Found, Kind};
+use plan::Kind;
 
 // The keys of the words: the bytes, and how many.
 const PLAN: u64 = 0x706c616e * 8 + 4;
@@ -59,26 +59,24 @@ fn key(s: &[u8]) -> u64
         return 0;
     }
     let mut v: u64 = 0;
-    let mut i = 0;
-    while i < s.len() {
-        v = v * 256 + s[i] as u64;
-        i += 1;
+    for x in s {
+        v = v * 256 + *x as u64;
     }
     v * 8 + s.len() as u64
 }
 
 // The kind k where the test holds, else what the rest says.
-fn first(ok: bool, k: Kind, rest: Found) -> Found
+fn first(ok: bool, k: Kind, rest: Option<Kind>) -> Option<Kind>
     ensures { result ≡ keys.first_of ok k rest }
 {
-    if ok { Found::Is(k) } else { rest }
+    if ok { Some(k) } else { rest }
 }
 
 // The kind of an event's line with c tabs, by the key of its first word.
-fn event_kind(c: usize, w: u64) -> Found
+fn event_kind(c: usize, w: u64) -> Option<Kind>
     ensures { result ≡ keys.event_kind c w }
 {
-    let show = first((c == 2) & (w == SHOW), Kind::ShowLine, Found::Nothing);
+    let show = first((c == 2) & (w == SHOW), Kind::ShowLine, None);
     let top = first((c == 1) & (w == TOP), Kind::TopLine, show);
     let used = first((c == 2) & (w == USE), Kind::UseLine, top);
     let free = first((c == 3) & (w == FREE), Kind::FreeLine, used);
@@ -86,7 +84,7 @@ fn event_kind(c: usize, w: u64) -> Found
 }
 
 // The same, of a line in a guest's section.
-fn sheet_kind(c: usize, w: u64) -> Found
+fn sheet_kind(c: usize, w: u64) -> Option<Kind>
     ensures { result ≡ keys.sheet_kind c w }
 {
     let end = first((c == 0) & (w == END), Kind::EndLine, event_kind(c, w));
@@ -97,7 +95,7 @@ fn sheet_kind(c: usize, w: u64) -> Found
 }
 
 // The same, of a line in the host's tables, with the key of its third field.
-fn table_kind(c: usize, w: u64, b: u64) -> Found
+fn table_kind(c: usize, w: u64, b: u64) -> Option<Kind>
     ensures { result ≡ keys.table_kind c w b }
 {
     let open = first((c == 2) & (w == OPEN), Kind::OpenLine, sheet_kind(c, w));
@@ -107,7 +105,7 @@ fn table_kind(c: usize, w: u64, b: u64) -> Found
 }
 
 // The kind of a line with c tabs, by the keys of its first three fields.
-fn line_kind(c: usize, w: u64, a: u64, b: u64) -> Found
+fn line_kind(c: usize, w: u64, a: u64, b: u64) -> Option<Kind>
     ensures { result ≡ keys.line_kind c w a b }
 {
     let table = table_kind(c, w, b);
@@ -135,7 +133,7 @@ fn line_kind(c: usize, w: u64, a: u64, b: u64) -> Found
 }
 
 // The same, by the fields.
-pub fn kind_at(c: usize, w: &[u8], a: &[u8], b: &[u8]) -> Found
+pub fn kind_at(c: usize, w: &[u8], a: &[u8], b: &[u8]) -> Option<Kind>
     ensures { result ≡ keys.kind_at c w.now a.now b.now }
 {
     line_kind(c, key(w), key(a), key(b))

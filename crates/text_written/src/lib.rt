@@ -9,29 +9,21 @@ ghost use Rattle.text_written.specs.Code.{spot_of};
 use plan::{BAD, Kind};
 
 // How many numbers a line of a kind has.
+#[tactic(auto, unfolding(plan::specs::Line::size, plan::specs::Line::shape))]
 pub fn size_of(kind: Kind) -> u64
     ensures { result ≡ size (shape kind) }
 {
     match kind {
-        Kind::PlanLine => 0,
-        Kind::PolicyPO => 0,
-        Kind::PolicyPN => 0,
-        Kind::PolicyDO => 0,
-        Kind::PolicyDN => 0,
+        Kind::PlanLine
+        | Kind::PolicyPO
+        | Kind::PolicyPN
+        | Kind::PolicyDO
+        | Kind::PolicyDN
+        | Kind::EndLine => 0,
+        Kind::MutexG | Kind::GuestLine | Kind::RunLine | Kind::TopLine => 1,
+        Kind::MutexL | Kind::OpenLine | Kind::LockLine | Kind::UseLine | Kind::ShowLine => 2,
+        Kind::TaskLine | Kind::AskLine | Kind::FreeLine => 3,
         Kind::VcpuLine => 5,
-        Kind::MutexG => 1,
-        Kind::MutexL => 2,
-        Kind::OpenLine => 2,
-        Kind::GuestLine => 1,
-        Kind::TaskLine => 3,
-        Kind::RunLine => 1,
-        Kind::LockLine => 2,
-        Kind::EndLine => 0,
-        Kind::AskLine => 3,
-        Kind::FreeLine => 3,
-        Kind::UseLine => 2,
-        Kind::TopLine => 1,
-        Kind::ShowLine => 2,
     }
 }
 

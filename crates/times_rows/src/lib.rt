@@ -5,23 +5,20 @@ ghost use Rattle.std.specs.Prelude.{◌≡◌, ◌+◌, ◌-◌, ◌*◌, ◌<�
 ghost use Rattle.laws.specs.Choice.{when};
 ghost use Rattle.search.specs.Row.{pushed};
 ghost use Rattle.plan_tables.specs.Layout.{vcpu_row};
-ghost use Rattle.figures.specs.Tabled.{Fit, system_in};
+ghost use Rattle.figures_cells.specs.Held.{system_of};
 ghost use Rattle.figures.specs.Figures.{lower_on};
-ghost use Rattle.figures_slices.specs.Stored.{VcpusIn};
+ghost use Rattle.figures_slices.specs.Lent.{VcpusOf};
 ghost use Rattle.figures_slices.specs.Costs.{is_deferrable, higher_row};
 
-use plan_tables::PlanRecord;
+use figures_cells::PlanTables;
 
 // Is VCPU b a lower VCPU on the core of VCPU a?
-pub fn is_lower_on(r: PlanRecord, vt: &[u64], mt: &[u64], ts: &[u64], a: usize, b: usize) -> bool
-    requires { Fit r vt.now mt.now ts.now × (a < r.vcpus) × (b < r.vcpus) }
-    ensures { result ≡ lower_on (vcpu_row vt.now a) (vcpu_row vt.now b) }
+pub fn is_lower_on(t: &PlanTables, a: usize, b: usize) -> bool
+    requires { (a < t.now.plan.vcpus) × (b < t.now.plan.vcpus) }
+    ensures { result ≡ lower_on (vcpu_row t.now.vcpus.now a) (vcpu_row t.now.vcpus.now b) }
 {
-    let lower = figures_cells::vcpu_cell(r, vt, mt, ts, b, 0)
-        < figures_cells::vcpu_cell(r, vt, mt, ts, a, 0);
-    lower
-        & (figures_cells::vcpu_cell(r, vt, mt, ts, b, 2)
-            == figures_cells::vcpu_cell(r, vt, mt, ts, a, 2))
+    let lower = t.vcpu_cell(b, 0) < t.vcpu_cell(a, 0);
+    lower & (t.vcpu_cell(b, 2) == t.vcpu_cell(a, 2))
 }
 
 // The jitter of a VCPU: its gap under D.
@@ -33,21 +30,11 @@ fn jitter_of(d: bool, budget: u64, period: u64) -> u64
 }
 
 // Writes row n: VCPU b, a higher one.
-pub fn push_vcpu(
-    r: PlanRecord,
-    vt: &[u64],
-    mt: &[u64],
-    ts: &[u64],
-    vf: &[u64],
-    rows: &mut [u64],
-    d: bool,
-    b: usize,
-    n: usize,
-)
-    requires { Fit r vt.now mt.now ts.now × VcpusIn r vt.now mt.now ts.now vf.now × (d ≡ is_deferrable r.policy) × (b < r.vcpus) × (n * 3 + 3 ≤ length rows.old) }
-    ensures { rows.new ≡ pushed rows.old n (higher_row (system_in r vt.now mt.now ts.now) (vcpu_row vt.now b)) }
+pub fn push_vcpu(t: &PlanTables, vf: &[u64], rows: &mut [u64], d: bool, b: usize, n: usize)
+    requires { VcpusOf t.now vf.now × (d ≡ is_deferrable t.now.plan.policy) × (b < t.now.plan.vcpus) × (n * 3 + 3 ≤ length rows.old) }
+    ensures { rows.new ≡ pushed rows.old n (higher_row (system_of t.now) (vcpu_row t.now.vcpus.now b)) }
 {
-    let budget = figures_cells::vcpu_cell(r, vt, mt, ts, b, 3);
-    let period = figures_cells::vcpu_cell(r, vt, mt, ts, b, 4);
+    let budget = t.vcpu_cell(b, 3);
+    let period = t.vcpu_cell(b, 4);
     search_rows::push_row(rows, n, jitter_of(d, budget, period), period, vf[b * 3 + 1]);
 }

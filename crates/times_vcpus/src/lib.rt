@@ -7,15 +7,15 @@ ghost use Rattle.laws.specs.Sums.{sum, only};
 ghost use Rattle.laws.specs.Rows.{rows as rows_of, Is};
 ghost use Rattle.search.specs.Row.{rows_in};
 ghost use Rattle.plan_tables.specs.Layout.{vcpu_row, task_row};
-ghost use Rattle.figures.specs.Tabled.{Fit, system_in};
+ghost use Rattle.figures_cells.specs.Held.{system_of};
 ghost use Rattle.figures.specs.Figures.{lower_on, higher_on};
 ghost use Rattle.figures.specs.Answers.{vcpu_answer};
-ghost use Rattle.figures_slices.specs.Stored.{TasksIn, VcpusIn};
+ghost use Rattle.figures_slices.specs.Lent.{TasksOf, VcpusOf};
 ghost use Rattle.figures_slices.specs.Costs.{is_deferrable, lower_times, blocking_cost, blocking_ght, cost_rows, higher_row, vcpu_base};
 ghost use Rattle.plan.specs.Limits.{most_tasks};
 
+use figures_cells::PlanTables;
 use plan::Policy;
-use plan_tables::PlanRecord;
 use search::Answer;
 
 // Is the policy D?
@@ -29,12 +29,12 @@ fn is_deferrable(policy: Policy) -> bool
 }
 
 // 1 where VCPU b is a lower VCPU on the core of VCPU a, and is v.
-fn lower_one(r: PlanRecord, vt: &[u64], mt: &[u64], ts: &[u64], a: usize, v: u64, b: usize) -> u64
-    requires { Fit r vt.now mt.now ts.now × (a < r.vcpus) × (b < r.vcpus) }
-    ensures { Is result (when (lower_on (vcpu_row vt.now a) (vcpu_row vt.now b) && eqb v (vcpu_row vt.now b).v) 1) 1 }
+fn lower_one(t: &PlanTables, a: usize, v: u64, b: usize) -> u64
+    requires { (a < t.now.plan.vcpus) × (b < t.now.plan.vcpus) }
+    ensures { Is result (when (lower_on (vcpu_row t.now.vcpus.now a) (vcpu_row t.now.vcpus.now b) && eqb v (vcpu_row t.now.vcpus.now b).v) 1) 1 }
 {
-    let lower = times_rows::is_lower_on(r, vt, mt, ts, a, b);
-    if lower & (v == figures_cells::vcpu_cell(r, vt, mt, ts, b, 0)) {
+    let lower = times_rows::is_lower_on(t, a, b);
+    if lower & (v == t.vcpu_cell(b, 0)) {
         1
     } else {
         0
@@ -42,213 +42,117 @@ fn lower_one(r: PlanRecord, vt: &[u64], mt: &[u64], ts: &[u64], a: usize, v: u64
 }
 
 // How many of the lower VCPUs on the core of VCPU a are v.
-fn lower_times(r: PlanRecord, vt: &[u64], mt: &[u64], ts: &[u64], a: usize, v: u64) -> u64
-    requires { Fit r vt.now mt.now ts.now × (a < r.vcpus) }
-    ensures { Is result (lower_times (system_in r vt.now mt.now ts.now) (vcpu_row vt.now a) v) 16 }
+fn lower_times(t: &PlanTables, a: usize, v: u64) -> u64
+    requires { a < t.now.plan.vcpus }
+    ensures { Is result (lower_times (system_of t.now) (vcpu_row t.now.vcpus.now a) v) 16 }
 {
-    let n = r.vcpus;
+    let n = t.plan.vcpus;
     let mut s: u64 = 0;
-    let mut b = 0;
-    while b < n {
-        let x = lower_one(r, vt, mt, ts, a, v, b);
+    for b in 0..n {
+        let x = lower_one(t, a, v, b);
         s = s + x;
-        b += 1;
     }
     s
 }
 
 // Under D, what task k costs VCPU a.
-fn blocking_cost(
-    r: PlanRecord,
-    vt: &[u64],
-    mt: &[u64],
-    ts: &[u64],
-    tf: &[u64],
-    d: bool,
-    a: usize,
-    k: usize,
-) -> u64
-    requires { Fit r vt.now mt.now ts.now × TasksIn r vt.now mt.now ts.now tf.now × (a < r.vcpus) × (k < r.tasks) }
-    ensures { Is result (blocking_cost d (system_in r vt.now mt.now ts.now) (vcpu_row vt.now a) (task_row ts.now k)) 128000000 }
+fn blocking_cost(t: &PlanTables, tf: &[u64], d: bool, a: usize, k: usize) -> u64
+    requires { TasksOf t.now tf.now × (a < t.now.plan.vcpus) × (k < t.now.plan.tasks) }
+    ensures { Is result (blocking_cost d (system_of t.now) (vcpu_row t.now.vcpus.now a) (task_row t.now.tasks.now k)) 128000000 }
 {
     if d {
-        lower_times(
-            r,
-            vt,
-            mt,
-            ts,
-            a,
-            figures_cells::task_cell(r, vt, mt, ts, k, 0),
-        ) * tf[k * 5 + 1]
+        lower_times(t, a, t.task_cell(k, 0)) * tf[k * 5 + 1]
     } else {
         0
     }
 }
 
 // What all tasks cost VCPU a.
-fn blocking_costs(
-    r: PlanRecord,
-    vt: &[u64],
-    mt: &[u64],
-    ts: &[u64],
-    tf: &[u64],
-    d: bool,
-    a: usize,
-) -> u64
-    requires { Fit r vt.now mt.now ts.now × TasksIn r vt.now mt.now ts.now tf.now × (a < r.vcpus) }
-    ensures { Is result (sum (blocking_cost d (system_in r vt.now mt.now ts.now) (vcpu_row vt.now a)) (rows_of r.tasks (task_row ts.now))) 8192000000 }
+fn blocking_costs(t: &PlanTables, tf: &[u64], d: bool, a: usize) -> u64
+    requires { TasksOf t.now tf.now × (a < t.now.plan.vcpus) }
+    ensures { Is result (sum (blocking_cost d (system_of t.now) (vcpu_row t.now.vcpus.now a)) (rows_of t.now.plan.tasks (task_row t.now.tasks.now))) 8192000000 }
 {
-    let n = r.tasks;
+    let n = t.plan.tasks;
     let mut s: u64 = 0;
-    let mut k = 0;
-    while k < n {
-        let x = blocking_cost(r, vt, mt, ts, tf, d, a, k);
+    for k in 0..n {
+        let x = blocking_cost(t, tf, d, a, k);
         s = s + x;
-        k += 1;
     }
     s
 }
 
 // Under P, what VCPU b costs VCPU a.
-fn blocking_ght(
-    r: PlanRecord,
-    vt: &[u64],
-    mt: &[u64],
-    ts: &[u64],
-    vf: &[u64],
-    d: bool,
-    a: usize,
-    b: usize,
-) -> u64
-    requires { Fit r vt.now mt.now ts.now × VcpusIn r vt.now mt.now ts.now vf.now × (a < r.vcpus) × (b < r.vcpus) }
-    ensures { Is result (blocking_ght d (system_in r vt.now mt.now ts.now) (vcpu_row vt.now a) (vcpu_row vt.now b)) 64000000 }
+fn blocking_ght(t: &PlanTables, vf: &[u64], d: bool, a: usize, b: usize) -> u64
+    requires { VcpusOf t.now vf.now × (a < t.now.plan.vcpus) × (b < t.now.plan.vcpus) }
+    ensures { Is result (blocking_ght d (system_of t.now) (vcpu_row t.now.vcpus.now a) (vcpu_row t.now.vcpus.now b)) 64000000 }
 {
-    let lower = times_rows::is_lower_on(r, vt, mt, ts, a, b);
+    let lower = times_rows::is_lower_on(t, a, b);
     if !d & lower { vf[b * 3] } else { 0 }
 }
 
 // What all VCPUs cost VCPU a.
-fn blocking_ghts(
-    r: PlanRecord,
-    vt: &[u64],
-    mt: &[u64],
-    ts: &[u64],
-    vf: &[u64],
-    d: bool,
-    a: usize,
-) -> u64
-    requires { Fit r vt.now mt.now ts.now × VcpusIn r vt.now mt.now ts.now vf.now × (a < r.vcpus) }
-    ensures { Is result (sum (blocking_ght d (system_in r vt.now mt.now ts.now) (vcpu_row vt.now a)) (rows_of r.vcpus (vcpu_row vt.now))) 1024000000 }
+fn blocking_ghts(t: &PlanTables, vf: &[u64], d: bool, a: usize) -> u64
+    requires { VcpusOf t.now vf.now × (a < t.now.plan.vcpus) }
+    ensures { Is result (sum (blocking_ght d (system_of t.now) (vcpu_row t.now.vcpus.now a)) (rows_of t.now.plan.vcpus (vcpu_row t.now.vcpus.now))) 1024000000 }
 {
-    let n = r.vcpus;
+    let n = t.plan.vcpus;
     let mut s: u64 = 0;
-    let mut b = 0;
-    while b < n {
-        let x = blocking_ght(r, vt, mt, ts, vf, d, a, b);
+    for b in 0..n {
+        let x = blocking_ght(t, vf, d, a, b);
         s = s + x;
-        b += 1;
     }
     s
 }
 
 // The base of VCPU a's search.
-fn vcpu_base(
-    r: PlanRecord,
-    vt: &[u64],
-    mt: &[u64],
-    ts: &[u64],
-    tf: &[u64],
-    vf: &[u64],
-    d: bool,
-    a: usize,
-) -> u64
-    requires { Fit r vt.now mt.now ts.now × TasksIn r vt.now mt.now ts.now tf.now × VcpusIn r vt.now mt.now ts.now vf.now × (a < r.vcpus) }
-    ensures { result ≡ vcpu_base d (system_in r vt.now mt.now ts.now) (vcpu_row vt.now a) }
+fn vcpu_base(t: &PlanTables, tf: &[u64], vf: &[u64], d: bool, a: usize) -> u64
+    requires { TasksOf t.now tf.now × VcpusOf t.now vf.now × (a < t.now.plan.vcpus) }
+    ensures { result ≡ vcpu_base d (system_of t.now) (vcpu_row t.now.vcpus.now a) }
 {
-    let ghts = blocking_ghts(r, vt, mt, ts, vf, d, a);
-    let costs = blocking_costs(r, vt, mt, ts, tf, d, a);
+    let ghts = blocking_ghts(t, vf, d, a);
+    let costs = blocking_costs(t, tf, d, a);
     vf[a * 3 + 1] + ghts + costs
 }
 
 // Writes the rows of the tasks that cost VCPU a something, and says how many.
-fn task_rows(
-    r: PlanRecord,
-    vt: &[u64],
-    mt: &[u64],
-    ts: &[u64],
-    tf: &[u64],
-    rows: &mut [u64],
-    d: bool,
-    a: usize,
-) -> usize
-    requires { Fit r vt.now mt.now ts.now × TasksIn r vt.now mt.now ts.now tf.now × (a < r.vcpus) × (240 ≤ length rows.old) }
-    ensures { (result ≤ most_tasks) × (rows_in rows.new result ≡ cost_rows (blocking_cost d (system_in r vt.now mt.now ts.now) (vcpu_row vt.now a)) (rows_of r.tasks (task_row ts.now))) }
+fn task_rows(t: &PlanTables, tf: &[u64], rows: &mut [u64], d: bool, a: usize) -> usize
+    requires { TasksOf t.now tf.now × (a < t.now.plan.vcpus) × (240 ≤ length rows.old) }
+    ensures { (result ≤ most_tasks) × (rows_in rows.new result ≡ cost_rows (blocking_cost d (system_of t.now) (vcpu_row t.now.vcpus.now a)) (rows_of t.now.plan.tasks (task_row t.now.tasks.now))) }
 {
-    let count = r.tasks;
+    let count = t.plan.tasks;
     let mut n = 0;
-    let mut k = 0;
-    while k < count {
-        let cost = blocking_cost(r, vt, mt, ts, tf, d, a, k);
-        n = figures_slices::add_cost(rows, n, figures_cells::task_cell(r, vt, mt, ts, k, 2), cost);
-        k += 1;
+    for k in 0..count {
+        let cost = blocking_cost(t, tf, d, a, k);
+        n = figures_slices::add_cost(rows, n, t.task_cell(k, 2), cost);
     }
     n
 }
 
 // Writes the rows of the higher VCPUs on the core of VCPU a after n rows, and says how many rows there are.
-fn vcpu_rows(
-    r: PlanRecord,
-    vt: &[u64],
-    mt: &[u64],
-    ts: &[u64],
-    vf: &[u64],
-    rows: &mut [u64],
-    d: bool,
-    a: usize,
-    n: usize,
-) -> usize
-    requires { Fit r vt.now mt.now ts.now × VcpusIn r vt.now mt.now ts.now vf.now × (d ≡ is_deferrable r.policy) × (a < r.vcpus) × (n ≤ most_tasks) × (240 ≤ length rows.old) }
-    ensures { (result ≤ 80) × (rows_in rows.new result ≡ rows_in rows.old n ++ map (higher_row (system_in r vt.now mt.now ts.now)) (only (higher_on (vcpu_row vt.now a)) (rows_of r.vcpus (vcpu_row vt.now)))) }
+fn vcpu_rows(t: &PlanTables, vf: &[u64], rows: &mut [u64], d: bool, a: usize, n: usize) -> usize
+    requires { VcpusOf t.now vf.now × (d ≡ is_deferrable t.now.plan.policy) × (a < t.now.plan.vcpus) × (n ≤ most_tasks) × (240 ≤ length rows.old) }
+    ensures { (result ≤ 80) × (rows_in rows.new result ≡ rows_in rows.old n ++ map (higher_row (system_of t.now)) (only (higher_on (vcpu_row t.now.vcpus.now a)) (rows_of t.now.plan.vcpus (vcpu_row t.now.vcpus.now)))) }
 {
-    let count = r.vcpus;
+    let count = t.plan.vcpus;
     let mut e = n;
-    let mut b = 0;
-    while b < count {
-        if !figures_found::is_higher_on(r, vt, mt, ts, a, b) {
-            b += 1;
-            continue;
+    for b in 0..count {
+        if figures_found::is_higher_on(t, a, b) {
+            times_rows::push_vcpu(t, vf, rows, d, b, e);
+            e += 1;
         }
-        times_rows::push_vcpu(r, vt, mt, ts, vf, rows, d, b, e);
-        e += 1;
-        b += 1;
     }
     e
 }
 
 // The answer of VCPU a.
-pub fn vcpu_answer(
-    r: PlanRecord,
-    vt: &[u64],
-    mt: &[u64],
-    ts: &[u64],
-    tf: &[u64],
-    vf: &[u64],
-    rows: &mut [u64],
-    a: usize,
-) -> Answer
-    requires { Fit r vt.now mt.now ts.now × TasksIn r vt.now mt.now ts.now tf.now × VcpusIn r vt.now mt.now ts.now vf.now × (a < r.vcpus) × (240 ≤ length rows.old) }
-    ensures { result ≡ vcpu_answer (system_in r vt.now mt.now ts.now) (vcpu_row vt.now a) }
+pub fn vcpu_answer(t: &PlanTables, tf: &[u64], vf: &[u64], rows: &mut [u64], a: usize) -> Answer
+    requires { TasksOf t.now tf.now × VcpusOf t.now vf.now × (a < t.now.plan.vcpus) × (240 ≤ length rows.old) }
+    ensures { result ≡ vcpu_answer (system_of t.now) (vcpu_row t.now.vcpus.now a) }
 {
-    let p = r.policy;
+    let p = t.plan.policy;
     let d = is_deferrable(p);
-    let base = vcpu_base(r, vt, mt, ts, tf, vf, d, a);
-    let n = task_rows(r, vt, mt, ts, tf, rows, d, a);
-    let e = vcpu_rows(r, vt, mt, ts, vf, rows, d, a, n);
-    search_least::least(
-        base,
-        vf[a * 3 + 1],
-        figures_cells::vcpu_cell(r, vt, mt, ts, a, 4),
-        rows,
-        e,
-    )
+    let base = vcpu_base(t, tf, vf, d, a);
+    let n = task_rows(t, tf, rows, d, a);
+    let e = vcpu_rows(t, vf, rows, d, a, n);
+    search_least::least(base, vf[a * 3 + 1], t.vcpu_cell(a, 4), rows, e)
 }

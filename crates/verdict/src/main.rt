@@ -1,13 +1,12 @@
 // Reads a plan on standard input and prints its listing, or its refusal.
 #![tactic(auto)]
 
-use program::Input;
 use std::process::ExitCode;
 
 // One byte more than is judged is read, so that a longer input is seen to be longer.
 fn main(rt: HostRuntime) -> ExitCode {
     let mut src = [0u8; 65537];
-    let Input::Bytes(n) = program::read_input(&rt, b"the plan on standard input", &mut src) else {
+    let Some(n) = program::read_input(&rt, b"the plan on standard input", &mut src) else {
         return ExitCode::FAILURE;
     };
     let mut out = [0u8; 16803];

@@ -1,5 +1,5 @@
 -- What is written is answered so exactly where document 02 says; "Reading them gives the same tables, and an accepted plan read and written comes back byte for byte".
-use Rattle.std.specs.Prelude.{ℕ, ◌*◌, ◌≤◌, ◌<◌, ◌≡◌, refl, List, ◌++◌, Bool, true, false, ◌↔◌, leb, length, take, drop}
+use Rattle.std.specs.Prelude.{ℕ, ◌*◌, ◌≤◌, ◌<◌, ◌≡◌, refl, List, ◌++◌, Bool, true, false, ◌↔◌, leb, length, take, drop, Ok, Result, Err}
 use Rattle.std.proofs.Common.{ap, sym, subst, ◌∙◌, true≢false, arith, leb-true, leb-false, take_at, drop_at}
 use Rattle.laws.specs.Sums.{flat, Each}
 use Rattle.laws.specs.SumLaws.{each_map}
@@ -15,11 +15,8 @@ use Rattle.plan_tables.specs.Given.{Gives, Given, plan_in, is_given}
 use Rattle.plan_tables.specs.FlatLaws.{each_of, flat_length, Holds}
 use Rattle.plan_tables.proofs.LayoutLaws.{task_wide}
 use Rattle.plan_tables.proofs.GivenLaws.{Roomy, roomy_exactly, Kept, gives_kept, valid_few, plan_given, given_plan, given_exactly}
-use Rattle.read_answer.specs.declared.PlanAnswer.TheVariants.{Accepted}
 use Rattle.read_answer.specs.Into.{plan_answer, tables_after}
 use Rattle.read_answer.specs.Claims.{accepted_with_room, accepted_gives, accepted_given, given_left}
-use Rattle.listing_lines.specs.declared.TextAnswer.{TextAnswer}
-use Rattle.listing_lines.specs.declared.TextAnswer.TheVariants.{Written, Refused}
 use Rattle.listing_lines.specs.Into.{text_answer, text_after}
 use Rattle.listing_lines.specs.IntoLaws.{into_room, into_none}
 use Rattle.listing_asked.proofs.AskedLaws as asked
@@ -33,14 +30,14 @@ module _ (r : PlanRecord) (t : Tables) (o : List ℕ) where
 
   -- each with what is left in the buffer
   pub data Outcome : Type 0 where
-    Whole : Given r t → length bytes ≤ length o → plan_asked r t o ≡ Written (length bytes) → plan_left r t o ≡ bytes ++ drop (length bytes) o → Outcome
-    Short : Given r t → length o < length bytes → plan_asked r t o ≡ Refused Room → plan_left r t o ≡ o → Outcome
-    Nobody : (Given r t → ⊥) → plan_asked r t o ≡ Refused Foreign → plan_left r t o ≡ o → Outcome
+    Whole : Given r t → length bytes ≤ length o → plan_asked r t o ≡ Ok (length bytes) → plan_left r t o ≡ bytes ++ drop (length bytes) o → Outcome
+    Short : Given r t → length o < length bytes → plan_asked r t o ≡ Err Room → plan_left r t o ≡ o → Outcome
+    Nobody : (Given r t → ⊥) → plan_asked r t o ≡ Err Foreign → plan_left r t o ≡ o → Outcome
 
   pub outcome : Outcome
   outcome = go (is_given r t) refl (leb (length bytes) (length o)) refl
     where
-      into : {a : TextAnswer} {p : List ℕ} → is_given r t ≡ true → (a ≡ text_answer bytes o) × (p ≡ text_after bytes o) → (plan_asked r t o ≡ a) × (plan_left r t o ≡ p)
+      into : {a : Result ℕ Refusal} {p : List ℕ} → is_given r t ≡ true → (a ≡ text_answer bytes o) × (p ≡ text_after bytes o) → (plan_asked r t o ≡ a) × (plan_left r t o ≡ p)
       into g h = (sym (asked.given_answer text r t o (sym g) refl h.0), sym (asked.given_left text r t o (sym g) refl h.1))
 
       go : (b : Bool) → is_given r t ≡ b → (l : Bool) → leb (length bytes) (length o) ≡ l → Outcome
@@ -56,32 +53,32 @@ module _ (r : PlanRecord) (t : Tables) (o : List ℕ) where
           Nobody (λ h. true≢false (sym ((given_exactly r t).1 h) ∙ g)) (sym (asked.foreign_answer text r t o (sym g) refl)) (sym (asked.foreign_left text r t o (sym g) refl))
 
   -- "9, then 8": 9 exactly where no accepted plan gives the tables, 8 exactly where one does and the bytes do not fit, and else they are written
-  pub foreign_exactly : (plan_asked r t o ≡ Refused Foreign) ↔ (Given r t → ⊥)
+  pub foreign_exactly : (plan_asked r t o ≡ Err Foreign) ↔ (Given r t → ⊥)
   foreign_exactly = go outcome
     where
-      go : Outcome → (plan_asked r t o ≡ Refused Foreign) ↔ (Given r t → ⊥)
+      go : Outcome → (plan_asked r t o ≡ Err Foreign) ↔ (Given r t → ⊥)
       go (Whole g l e h) = (λ f. absurd (let z : ◌≡◌ {A = ℕ} 0 1 = cc in omega arith), λ n. absurd (n g))
       go (Short g l e h) = (λ f. absurd (let z : ◌≡◌ {A = ℕ} 0 1 = cc in omega arith), λ n. absurd (n g))
       go (Nobody g e h) = (λ f. g, λ n. e)
 
-  pub room_exactly : (plan_asked r t o ≡ Refused Room) ↔ (Given r t × (length o < length bytes))
+  pub room_exactly : (plan_asked r t o ≡ Err Room) ↔ (Given r t × (length o < length bytes))
   room_exactly = go outcome
     where
-      go : Outcome → (plan_asked r t o ≡ Refused Room) ↔ (Given r t × (length o < length bytes))
+      go : Outcome → (plan_asked r t o ≡ Err Room) ↔ (Given r t × (length o < length bytes))
       go (Whole g l e h) = (λ f. absurd (let z : ◌≡◌ {A = ℕ} 0 1 = cc in omega arith), λ n. absurd (let k = n.1 in omega arith))
       go (Short g l e h) = (λ f. (g, l), λ n. e)
       go (Nobody g e h) = (λ f. absurd (let z : ◌≡◌ {A = ℕ} 0 1 = cc in omega arith), λ n. absurd (g n.0))
 
-  pub written_exactly : (n : ℕ) → (plan_asked r t o ≡ Written n) ↔ (Given r t × (length bytes ≤ length o) × (n ≡ length bytes))
+  pub written_exactly : (n : ℕ) → (plan_asked r t o ≡ Ok n) ↔ (Given r t × (length bytes ≤ length o) × (n ≡ length bytes))
   written_exactly n = go outcome
     where
-      go : Outcome → (plan_asked r t o ≡ Written n) ↔ (Given r t × (length bytes ≤ length o) × (n ≡ length bytes))
-      go (Whole g l e h) = (λ f. (g, l, cc), λ k. e ∙ ap Written (sym k.2))
+      go : Outcome → (plan_asked r t o ≡ Ok n) ↔ (Given r t × (length bytes ≤ length o) × (n ≡ length bytes))
+      go (Whole g l e h) = (λ f. (g, l, cc), λ k. e ∙ ap Ok (sym k.2))
       go (Short g l e h) = (λ f. absurd (let z : ◌≡◌ {A = ℕ} 0 1 = cc in omega arith), λ k. absurd (let m = k.1 in omega arith))
       go (Nobody g e h) = (λ f. absurd (let z : ◌≡◌ {A = ℕ} 0 1 = cc in omega arith), λ k. absurd (g k.0))
 
   -- "with the buffer untouched"
-  pub refused_leaves : (x : Refusal) → plan_asked r t o ≡ Refused x → plan_left r t o ≡ o
+  pub refused_leaves : (x : Refusal) → plan_asked r t o ≡ Err x → plan_left r t o ≡ o
   refused_leaves x f = go outcome
     where
       go : Outcome → plan_left r t o ≡ o
@@ -90,7 +87,7 @@ module _ (r : PlanRecord) (t : Tables) (o : List ℕ) where
       go (Nobody g e h) = h
 
   -- n bytes are the plan's, and behind them the buffer is as it was
-  pub written_leaves : (n : ℕ) → plan_asked r t o ≡ Written n → (take n (plan_left r t o) ≡ bytes) × (drop n (plan_left r t o) ≡ drop n o)
+  pub written_leaves : (n : ℕ) → plan_asked r t o ≡ Ok n → (take n (plan_left r t o) ≡ bytes) × (drop n (plan_left r t o) ≡ drop n o)
   written_leaves n f = go outcome
     where
       go : Outcome → (take n (plan_left r t o) ≡ bytes) × (drop n (plan_left r t o) ≡ drop n o)
@@ -125,13 +122,13 @@ filled_after : (p : Plan) (u : Tables) → Valid p → Roomy (record_of p) u →
 unfolding tables_after
 filled_after p u v m = rw (text_read p v, (roomy_exactly (record_of p) u).1 m)
 
-module _ (r : PlanRecord) (t : Tables) (o : List ℕ) (n : ℕ) (e : plan_asked r t o ≡ Written n) where
+module _ (r : PlanRecord) (t : Tables) (o : List ℕ) (n : ℕ) (e : plan_asked r t o ≡ Ok n) where
   written_given : is_given r t ≡ true
   written_given = (given_exactly r t).1 ((written_exactly r t o n).0 e).0
 
   -- "Reading them gives the same tables": into any tables with room for its rows, the same record, these rows, and behind them what was lent
   pub written_reads :
-      (u : Tables) → Roomy r u → (plan_answer (take n (plan_left r t o)) u ≡ Accepted r) × (tables_after (take n (plan_left r t o)) u ≡ copied r t u)
+      (u : Tables) → Roomy r u → (plan_answer (take n (plan_left r t o)) u ≡ Ok r) × (tables_after (take n (plan_left r t o)) u ≡ copied r t u)
   written_reads u m =
       let p : Plan = plan_in r t in
       let g = given_plan r t written_given in
@@ -142,11 +139,11 @@ module _ (r : PlanRecord) (t : Tables) (o : List ℕ) (n : ℕ) (e : plan_asked 
       )
 
   -- and into the same tables, these as they are
-  pub written_back : (plan_answer (take n (plan_left r t o)) t ≡ Accepted r) × (tables_after (take n (plan_left r t o)) t ≡ t)
+  pub written_back : (plan_answer (take n (plan_left r t o)) t ≡ Ok r) × (tables_after (take n (plan_left r t o)) t ≡ t)
   written_back = rw (written_leaves r t o n e).0 (given_left r t written_given)
 
 -- "an accepted plan read and written comes back byte for byte": into a buffer with room for it, else 8
-module _ (s : List ℕ) (t : Tables) (r : PlanRecord) (e : plan_answer s t ≡ Accepted r) where
+module _ (s : List ℕ) (t : Tables) (r : PlanRecord) (e : plan_answer s t ≡ Ok r) where
   read_bytes : text (plan_in r (tables_after s t)) ≡ s
   read_bytes =
       let w = accepted_gives s t r e in

@@ -1,13 +1,13 @@
 -- "From tables of an accepted plan, write the plan's bytes into a lent buffer": the text of the plan in the tables. "Refusals: 9, then 8 when the bytes do not fit, with the buffer untouched".
-use Rattle.std.specs.Prelude.{ℕ, ◌*◌, List, ◌++◌, take, drop}
+use Rattle.std.specs.Prelude.{ℕ, ◌*◌, List, ◌++◌, take, drop, Result}
 use Rattle.plan.specs.Text.{text}
+use Rattle.plan.specs.declared.Refusal.{Refusal}
 use Rattle.plan_tables.specs.declared.PlanRecord.{PlanRecord}
 use Rattle.plan_tables.specs.Layout.{Tables, vcpu_width, mutex_width, open_width, task_width}
-use Rattle.listing_lines.specs.declared.TextAnswer.{TextAnswer}
 use Rattle.listing_asked.specs.Asked.{text_asked, text_left}
 
 -- what the call answers, and what it leaves in the buffer o
-abbrev pub plan_asked : PlanRecord → Tables → List ℕ → TextAnswer
+abbrev pub plan_asked : PlanRecord → Tables → List ℕ → Result ℕ Refusal
 plan_asked r t o = text_asked text r t o
 
 abbrev pub plan_left : PlanRecord → Tables → List ℕ → List ℕ

@@ -55,10 +55,8 @@ pub fn rows_told(on: bool, out: &mut [u8], n: usize, what: Rows, t: &[u64], c: u
     ensures { Told on (text_of (lined c (row_lines what t.now))) out.old out.new n result }
 {
     let mut k = n;
-    let mut i = 0;
-    while i < c {
+    for i in 0..c {
         k = row(on, out, k, what, t, i);
-        i += 1;
     }
     k
 }
@@ -81,10 +79,8 @@ fn locks(on: bool, out: &mut [u8], n: usize, t: &[u64], i: usize, c: usize) -> u
     ensures { Told on (text_of (lined c (lock_lines t.now i))) out.old out.new n result }
 {
     let mut k = n;
-    let mut j = 0;
-    while j < c {
+    for j in 0..c {
         k = lock(on, out, k, t, i, j);
-        j += 1;
     }
     k
 }
@@ -140,13 +136,11 @@ pub fn tasks_told(
 {
     let mut k = n;
     let mut last = 0;
-    let mut i = 0;
-    while i < m {
+    for i in 0..m {
         let guest = host_after(vt, c, t, i, last);
         let first = begins_after(i, guest, last);
         k = task(on, out, k, first, guest, t, i);
         last = guest;
-        i += 1;
     }
     k
 }

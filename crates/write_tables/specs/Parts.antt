@@ -1,5 +1,5 @@
 -- The parts of a plan's text, table by table, and what the test for 9 says of them.
-use Rattle.std.specs.Prelude.{ℕ, ◌+◌, ◌≤◌, ◌≡◌, refl, Bool, true, false, ◌&&◌, not, leb, length, drop}
+use Rattle.std.specs.Prelude.{ℕ, ◌≤◌, ◌≡◌, refl, Bool, true, false, ◌&&◌, not, leb, length, drop, Ok, Err}
 use Rattle.std.proofs.Math.Path.{ap, sym}
 use Rattle.std.proofs.Common.{ap₂, subst, ◌∙◌, zero-add, arith, le-leb, leb-true, leb-false}
 use mathlib.Core.List.{List, [], ◌∷◌, ◌++◌}
@@ -29,7 +29,6 @@ use Rattle.text_letters.specs.WroteLaws.{joins}
 use Rattle.text_told.specs.At.{told_at}
 use Rattle.text_told.proofs.AtLaws.{told_off}
 use Rattle.text_told.specs.Told.{Space, Told}
-use Rattle.listing_lines.specs.declared.TextAnswer.TheVariants.{Written, Refused}
 use Rattle.listing_lines.specs.Into.{has_room, text_answer, text_after}
 use Rattle.listing_lines.specs.IntoLaws.{into_room, into_none}
 use Rattle.write_asked.specs.Short.{most_text, text_short}
@@ -153,7 +152,7 @@ room_counted t e =
     (ap₂ leb n (e ∙ ap length f), f)
 
 module _ (x : List ℕ) {o p : List ℕ} {b : Bool} (e : b ≡ has_room x o) (f : p ≡ o) where
-  pub none_told : not b ≡ true → (Refused Room ≡ text_answer x o) × (p ≡ text_after x o)
+  pub none_told : not b ≡ true → (Err Room ≡ text_answer x o) × (p ≡ text_after x o)
   none_told h =
       let w = into_none x o (let k = leb-false (length x) (length o) (sym e ∙ not-true b h) in omega (arith, k)) in
       (w.0, f ∙ w.1)
@@ -161,5 +160,5 @@ module _ (x : List ℕ) {o p : List ℕ} {b : Bool} (e : b ≡ has_room x o) (f 
   pub room_told : not b ≡ false → length x ≤ length p
   room_told h = rw f (leb-true (length x) (length o) (sym e ∙ not-false b h))
 
-  pub whole_told : not b ≡ false → {q : List ℕ} {m : ℕ} → Told true x p q 0 m → (Written m ≡ text_answer x o) × (q ≡ text_after x o)
+  pub whole_told : not b ≡ false → {q : List ℕ} {m : ℕ} → Told true x p q 0 m → (Ok m ≡ text_answer x o) × (q ≡ text_after x o)
   whole_told h {q} {m} u = into_room x o (leb-true (length x) (length o) (sym e ∙ not-false b h)) (subst (λ y. Wrote x y q m) f (told_wrote u))

@@ -10,7 +10,6 @@ ghost use Rattle.listing_lines.specs.Into.{has_room, text_answer, text_after};
 ghost use Rattle.write_asked.specs.Asked.{plan_asked, plan_left};
 ghost use Rattle.write_tables.specs.Parts.{front_bytes};
 
-use listing_lines::TextAnswer;
 use plan::{OverrunChoice, Policy, Refusal};
 use plan_tables::PlanRecord;
 use write_rows::Rows;
@@ -88,16 +87,16 @@ pub fn plan_into(
     ot: &[u64],
     ts: &[u64],
     out: &mut [u8],
-) -> TextAnswer
+) -> Result<usize, Refusal>
     requires { is_given r (lent vt.now mt.now ot.now ts.now) ≡ true }
     ensures value { result ≡ text_answer (text (plan_in r (lent vt.now mt.now ot.now ts.now))) out.old }
     ensures out_after { out.new ≡ text_after (text (plan_in r (lent vt.now mt.now ot.now ts.now))) out.old }
 {
     if !fits(r, vt, mt, ot, ts, out) {
-        return TextAnswer::Refused(Refusal::Room);
+        return Err(Refusal::Room);
     }
     let n = plan_told(true, r, vt, mt, ot, ts, out);
-    TextAnswer::Written(n)
+    Ok(n)
 }
 
 // Writes the plan in lent tables into a lent buffer: 9 first, then 8.
@@ -108,12 +107,12 @@ pub fn write_plan(
     ot: &[u64],
     ts: &[u64],
     out: &mut [u8],
-) -> TextAnswer
+) -> Result<usize, Refusal>
     ensures value { result ≡ plan_asked r (lent vt.now mt.now ot.now ts.now) out.old }
     ensures out_after { out.new ≡ plan_left r (lent vt.now mt.now ot.now ts.now) out.old }
 {
     if !given_test::is_given(r, vt, mt, ot, ts) {
-        return TextAnswer::Refused(Refusal::Foreign);
+        return Err(Refusal::Foreign);
     }
     plan_into(r, vt, mt, ot, ts, out)
 }

@@ -4,22 +4,21 @@ use native.Mathlib.Omega.{arith}
 use Rattle.answers.proofs.answers.Goals as goal
 
 pub fill_vcpus-requires : goal.fill_vcpus-requires
-fill_vcpus-requires c = let p = c.requires in (p.fit.0, p.fit.1.tasks, p.fit.1.vcpus, p.in_bounds.0, p.in_bounds.3)
+fill_vcpus-requires c = let p = c.requires in (p.stored.tasks, p.stored.vcpus, p.in_bounds.0, p.in_bounds.3)
 
 pub fill_waits-requires : goal.fill_waits-requires
-fill_waits-requires c = let p = c.requires in (p.fit.0, p.fit.1.responses, p.fit.1.room, omega (arith, c.fill_vcpus.auto.rows, p.in_bounds.0), p.in_bounds.4)
+fill_waits-requires c = let p = c.requires in (p.stored.responses, p.stored.room, omega (arith, c.fill_vcpus.auto.rows, p.in_bounds.0), p.in_bounds.4)
 
 pub fill_sums-requires : goal.fill_sums-requires
-fill_sums-requires c = let p = c.requires in (p.fit.0, c.fill_waits.ensures.1, p.in_bounds.1)
+fill_sums-requires c = let p = c.requires in (c.fill_waits.ensures.1, p.in_bounds.1)
 
 pub fill_flags-requires : goal.fill_flags-requires
-fill_flags-requires c = let p = c.requires in (p.fit.0, c.fill_waits.ensures.1, p.in_bounds.2)
+fill_flags-requires c = let p = c.requires in (c.fill_waits.ensures.1, p.in_bounds.2)
 
 pub fill_tasks-requires : goal.fill_tasks-requires
 fill_tasks-requires c = let p = c.requires in (
-  p.fit.0,
-  p.fit.1.tasks,
-  p.fit.1.blockings,
+  p.stored.tasks,
+  p.stored.blockings,
   record {
     waits_room = omega (arith, c.fill_sums.auto.ws, p.in_bounds.1);
     flags_room = omega (arith, c.fill_flags.auto.fs, p.in_bounds.2);

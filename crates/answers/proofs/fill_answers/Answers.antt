@@ -4,7 +4,7 @@ use borrow.Author.Rules.{rules}
 use Rattle.answers.proofs.fill_answers.Goals as goal
 
 pub answers-requires : goal.answers-requires
-answers-requires c = let p = c.requires in record { fit = (p.0, c.stored.ensures); in_bounds = (search rules, search rules, search rules, p.3, p.4, p.5) }
+answers-requires c = let p = c.requires in record { stored = c.stored.ensures; in_bounds = (search rules, search rules, search rules, p.2, p.3, p.4) }
 
 pub shape_of-tf : goal.shape_of-tf
 shape_of-tf c = c.stored.auto.tf
@@ -24,7 +24,7 @@ shape_of-ta c = c.answers.auto.ta
 pub returns : goal.returns
 returns c = let p = c.requires in
     let a = c.answers in
-    answers_in_law p.0 c.args.va.now c.args.wa.now c.args.ta.now
-    p.3 a.auto.va a.ensures.0
-    p.4 a.auto.wa a.ensures.1
-    p.5 a.auto.ta a.ensures.2
+    answers_in_law c.args.t.now.fit c.args.va.now c.args.wa.now c.args.ta.now
+    p.2 a.auto.va a.ensures.0
+    p.3 a.auto.wa a.ensures.1
+    p.4 a.auto.ta a.ensures.2

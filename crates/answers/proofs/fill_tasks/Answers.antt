@@ -1,5 +1,4 @@
 -- `fill_tasks` meets its contract: the answers before this one are written.
-use Prim.Native.Nat.{◌-◌}
 use Rattle.figures_slices.specs.Filled.{task_answer_row}
 use Rattle.figures_slices.specs.FilledLaws.{filled_more, filled_none}
 use Rattle.figures_slices.specs.Places.{tasks_over}
@@ -15,17 +14,17 @@ loop-i-init c = (refl, filled_none)
 
 pub task_answer-x-requires : goal.task_answer-x-requires
 unfolding system_in
-task_answer-x-requires c = let h = c.requires in (h.0, h.1, h.2, h.3, c.loop-i-test.true, omega (arith, c.loop-i.invariant.0, h.4))
+task_answer-x-requires c = let h = c.requires in (h.0, h.1, h.2, c.loop-i-test.true, omega (arith, c.loop-i.invariant.0, h.3))
 
 pub put_task-requires : goal.put_task-requires
 unfolding system_in
-put_task-requires c = let h = c.requires in omega (arith, c.loop-i.invariant.1.same, c.loop-i-test.true, h.5)
+put_task-requires c = let h = c.requires in omega (arith, c.loop-i.invariant.1.same, c.loop-i-test.true, h.4)
 
 pub loop-i-preserved : goal.loop-i-preserved
 unfolding system_in
 loop-i-preserved c = let h = c.requires in let j = c.loop-i.invariant in (
   c.task_answer-x.auto.rows ∙ j.0,
-  filled_more _ j.1 c.loop-i-test.true c.put_task.ensures (ap task_answer_row c.task_answer-x.ensures) (omega (arith, h.5)),
+  filled_more _ j.1 c.loop-i-test.true c.put_task.ensures (ap task_answer_row c.task_answer-x.ensures) (omega (arith, h.4)),
 )
 
 pub returns : goal.returns

@@ -1,9 +1,6 @@
 -- `same_before` meets its contract.
-use Prim.Native.Nat.{◌-◌, ◌≤◌}
+use Prim.Native.Nat.{◌≤◌}
 use Rattle.answers_copies.proofs.same_before.Given as goal
 
 abbrev pub invariant-loop-e : goal.invariant-loop-e
 invariant-loop-e l = l.e ≤ l.j
-
-abbrev pub decreases-loop-e : goal.decreases-loop-e
-decreases-loop-e l = l.j - l.e

@@ -10,7 +10,7 @@ pub returns-then-not-has_section : goal.returns-then-not-has_section
 returns-then-not-has_section c = response_nowhere _ _ _ _ _ _ c.task_row-k.ensures _ c.if-e-k.false c.has_section.ensures c.if-not-has_section.true
 
 pub response_at-x-requires : goal.response_at-x-requires
-response_at-x-requires c = (c.requires, c.if-e-k.false, sym c.has_section.ensures ∙ c.if-not-has_section.false)
+response_at-x-requires c = (c.if-e-k.false, sym c.has_section.ensures ∙ c.if-not-has_section.false)
 
 pub returns : goal.returns
 returns c = response_there _ _ _ _ _ _ c.task_row-k.ensures _ c.if-e-k.false c.has_section.ensures c.if-not-has_section.false c.response_at-x.ensures

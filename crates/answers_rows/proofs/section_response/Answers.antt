@@ -1,6 +1,6 @@
 -- `section_response` meets its contract: 9 first.
+use Rattle.std.specs.Prelude.{Err}
 use Rattle.figures_slices.specs.FitLaws.{given_fit, foreign_asked, given_asked}
-use Rattle.answers_tasks.specs.declared.FigureAnswer.TheVariants.{NoFigure}
 use Rattle.answers_tasks.specs.Asked.{response_asked, response_row_of}
 use Rattle.plan.specs.declared.Refusal.TheVariants.{Foreign}
 use mathlib.Core.Path.{◌∙◌, sym}
@@ -8,12 +8,12 @@ use Rattle.answers_rows.proofs.section_response.Goals as goal
 
 pub returns-then-not-is_given : goal.returns-then-not-is_given
 unfolding response_asked
-returns-then-not-is_given c = foreign_asked _ _ (λ s. response_row_of s c.args.v c.args.n c.args.i) (NoFigure Foreign) c.is_given.ensures c.if-not-is_given.true
+returns-then-not-is_given c = foreign_asked _ _ (λ s. response_row_of s c.args.v c.args.n c.args.i) (Err Foreign) c.is_given.ensures c.if-not-is_given.true
 
-pub response_in-requires : goal.response_in-requires
+pub invariant_of-t : goal.invariant_of-t
 unfolding response_asked
-response_in-requires c = given_fit _ _ (sym c.is_given.ensures ∙ c.if-not-is_given.false)
+invariant_of-t c = record { fit = given_fit _ _ (sym c.is_given.ensures ∙ c.if-not-is_given.false) }
 
 pub returns : goal.returns
 unfolding response_asked
-returns c = given_asked _ _ (λ s. response_row_of s c.args.v c.args.n c.args.i) (NoFigure Foreign) c.is_given.ensures c.if-not-is_given.false c.response_in.ensures
+returns c = given_asked _ _ (λ s. response_row_of s c.args.v c.args.n c.args.i) (Err Foreign) c.is_given.ensures c.if-not-is_given.false c.response_in.ensures

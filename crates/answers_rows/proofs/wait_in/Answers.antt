@@ -10,7 +10,7 @@ pub returns-then-not-has_section : goal.returns-then-not-has_section
 returns-then-not-has_section c = wait_nowhere _ _ _ _ _ _ c.task_row-k.ensures _ c.if-e-k.false c.has_section.ensures c.if-not-has_section.true
 
 pub wait_answer-x-requires : goal.wait_answer-x-requires
-wait_answer-x-requires c = (c.requires, c.if-e-k.false, sym c.has_section.ensures ∙ c.if-not-has_section.false)
+wait_answer-x-requires c = (c.if-e-k.false, sym c.has_section.ensures ∙ c.if-not-has_section.false)
 
 pub returns : goal.returns
 returns c = wait_there _ _ _ _ _ _ c.task_row-k.ensures _ c.if-e-k.false c.has_section.ensures c.if-not-has_section.false c.wait_answer-x.ensures

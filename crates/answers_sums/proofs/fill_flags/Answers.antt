@@ -1,5 +1,4 @@
 -- `fill_flags` meets its contract: the flags before this one are stored.
-use Prim.Native.Nat.{◌-◌}
 use Rattle.figures.specs.PartLaws.{is_then}
 use Rattle.laws.specs.Choice.{when}
 use Rattle.figures_slices.specs.StoredLaws.{values_all, values_more, values_none}
@@ -12,12 +11,12 @@ pub loop-i-init : goal.loop-i-init
 loop-i-init c = (refl, values_none)
 
 pub bounds-fs-i : goal.bounds-fs-i
-bounds-fs-i c = let h = c.requires in omega (arith, c.loop-i.invariant.0, h.2, h.0.tasks_few, c.loop-i-test.true)
+bounds-fs-i c = let h = c.requires in omega (arith, c.loop-i.invariant.0, h.1, c.args.t.now.fit.tasks_few, c.loop-i-test.true)
 
 pub loop-i-preserved : goal.loop-i-preserved
 loop-i-preserved c = let h = c.requires in let j = c.loop-i.invariant in (
   simp length-set j.0,
-  values_more _ j.1 (λ k m. omega arith) (omega (arith, j.0, h.2, h.0.tasks_few, c.loop-i-test.true))
+  values_more _ j.1 (λ k m. omega arith) (omega (arith, j.0, h.1, c.args.t.now.fit.tasks_few, c.loop-i-test.true))
       (is_then c.flag_of-x.ensures (ap (λ b. when b 1) c.is_lacking.ensures)),
 )
 

@@ -1,5 +1,4 @@
 -- `is_lacking` meets its contract: no wait before this one lacks an answer.
-use Prim.Native.Nat.{◌-◌}
 use Rattle.figures_slices.specs.Places.{found_locks}
 use Rattle.figures.specs.Answers.{lacks_wait}
 use Rattle.laws.specs.RowLaws.{lacking_all, lacking_more, lacking_none, lacking_out}
@@ -13,7 +12,7 @@ loop-j-init c = lacking_none
 
 pub wait_late-requires : goal.wait_late-requires
 unfolding lacks_wait
-wait_late-requires c = let h = c.requires in (h.0, h.1, h.2, omega (arith, c.loop-j-test.true, c.lock_count-n.ensures.small), omega (arith, c.loop-j-test.true, c.lock_count-n.ensures.is))
+wait_late-requires c = let h = c.requires in (h.0, h.1, omega (arith, c.loop-j-test.true, c.lock_count-n.ensures.small), omega (arith, c.loop-j-test.true, c.lock_count-n.ensures.is))
 
 pub returns-then-wait_late : goal.returns-then-wait_late
 unfolding lacks_wait

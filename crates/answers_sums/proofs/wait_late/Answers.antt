@@ -9,4 +9,4 @@ use Rattle.answers_sums.proofs.wait_late.Goals as goal
 pub returns : goal.returns
 unfolding lock_row
 returns c = let h = c.requires in
-    late_read h.1 c.args.i c.args.j (omega (arith, h.2, h.3)) h.4 h.3 (c.is_global.ensures ∙ ap (global _) c.lock_cell-m.ensures.is) refl
+    late_read h.0 c.args.i c.args.j (omega (arith, h.1, h.2)) h.3 h.2 (c.is_global.ensures ∙ ap (global _) c.lock_cell-m.ensures.is) refl

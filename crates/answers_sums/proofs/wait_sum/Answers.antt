@@ -1,5 +1,4 @@
 -- `wait_sum` meets its contract.
-use Prim.Native.Nat.{◌-◌}
 use Rattle.figures.specs.Answers.{remote_waits}
 use Rattle.laws.specs.RowLaws.{summed_all, summed_more, summed_none}
 use Rattle.laws.specs.Sums.{sum}
@@ -13,7 +12,7 @@ loop-j-init c = summed_none
 
 pub wait_ticks-x-requires : goal.wait_ticks-x-requires
 unfolding remote_waits
-wait_ticks-x-requires c = let h = c.requires in (h.0, h.1, h.2, omega (arith, c.loop-j-test.true, c.lock_count-n.ensures.small), omega (arith, c.loop-j-test.true, c.lock_count-n.ensures.is))
+wait_ticks-x-requires c = let h = c.requires in (h.0, h.1, omega (arith, c.loop-j-test.true, c.lock_count-n.ensures.small), omega (arith, c.loop-j-test.true, c.lock_count-n.ensures.is))
 
 pub loop-j-preserved : goal.loop-j-preserved
 unfolding remote_waits

@@ -4,4 +4,4 @@ use Rattle.answers_tasks.proofs.task_answer.Goals as goal
 
 pub returns : goal.returns
 returns c =
-    c.task_answer_at.ensures ∙ c.fill_answers.ensures.tasks.at _ c.requires.1
+    c.task_answer_at.ensures ∙ c.fill_answers.ensures.tasks.at _ c.requires

@@ -1,5 +1,4 @@
 -- `fill_vcpus` meets its contract: the answers before this one are written.
-use Prim.Native.Nat.{◌-◌}
 use Rattle.figures_slices.specs.Filled.{answer_row}
 use Rattle.figures_slices.specs.FilledLaws.{filled_more, filled_none}
 use Rattle.figures_slices.specs.Places.{vcpus_over}
@@ -15,17 +14,17 @@ loop-a-init c = (refl, filled_none)
 
 pub vcpu_answer-x-requires : goal.vcpu_answer-x-requires
 unfolding system_in
-vcpu_answer-x-requires c = let h = c.requires in (h.0, h.1, h.2, c.loop-a-test.true, omega (arith, c.loop-a.invariant.0, h.3))
+vcpu_answer-x-requires c = let h = c.requires in (h.0, h.1, c.loop-a-test.true, omega (arith, c.loop-a.invariant.0, h.2))
 
 pub put_answer-requires : goal.put_answer-requires
 unfolding system_in
-put_answer-requires c = let h = c.requires in omega (arith, c.loop-a.invariant.1.same, c.loop-a-test.true, h.4, h.0.vcpus_few)
+put_answer-requires c = let h = c.requires in omega (arith, c.loop-a.invariant.1.same, c.loop-a-test.true, h.3, c.args.t.now.fit.vcpus_few)
 
 pub loop-a-preserved : goal.loop-a-preserved
 unfolding system_in
 loop-a-preserved c = let h = c.requires in let i = c.loop-a.invariant in (
   c.vcpu_answer-x.auto.rows ∙ i.0,
-  filled_more _ i.1 c.loop-a-test.true c.put_answer.ensures (ap answer_row c.vcpu_answer-x.ensures) (omega (arith, h.4, h.0.vcpus_few)),
+  filled_more _ i.1 c.loop-a-test.true c.put_answer.ensures (ap answer_row c.vcpu_answer-x.ensures) (omega (arith, h.3, c.args.t.now.fit.vcpus_few)),
 )
 
 pub returns : goal.returns

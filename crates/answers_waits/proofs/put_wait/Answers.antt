@@ -8,35 +8,34 @@ use native.Mathlib.Omega.{arith}
 use Rattle.answers_waits.proofs.put_wait.Goals as goal
 
 pub push_row-requires : goal.push_row-requires
-push_row-requires c = let h = c.requires in omega (arith, h.3, h.5)
+push_row-requires c = let h = c.requires in omega (arith, h.2, h.4)
 
 pub returns-then-not-is_section : goal.returns-then-not-is_section
 returns-then-not-is_section c = c.push_row.ensures ∙ ap (pushed _ _) (place_none _ _ _ _ c.is_section.ensures c.if-not-is_section.true)
 
 pub copy_answer-requires : goal.copy_answer-requires
-copy_answer-requires c = let h = c.requires in (omega (arith, h.3, h.5, c.if-e-j.true), omega (arith, h.3, h.5))
+copy_answer-requires c = let h = c.requires in (omega (arith, h.2, h.4, c.if-e-j.true), omega (arith, h.2, h.4))
 
 pub returns-then-e-j : goal.returns-then-e-j
 returns-then-e-j c = let h = c.requires in
     let e = c.same_before-e in
     c.copy_answer.ensures
     ∙ ap (pushed _ _)
-    (h.6 (c.args.k / 8 * 8 + e.result) (omega (arith, c.if-e-j.true))
+    (h.5 (c.args.k / 8 * 8 + e.result) (omega (arith, c.if-e-j.true))
     ∙ same_place _ _ _ _ _ c.is_section.ensures c.if-not-is_section.false e.ensures.0 (omega arith) e.ensures.1)
 
 pub wait_at-a-requires : goal.wait_at-a-requires
 wait_at-a-requires c = let h = c.requires in (
   h.0,
   h.1,
-  h.2,
-  omega (arith, h.3),
+  omega (arith, h.2),
   omega arith,
   section_global _ _ _ _ c.is_section.ensures c.if-not-is_section.false,
-  h.4,
+  h.3,
 )
 
 pub put_answer-requires : goal.put_answer-requires
-put_answer-requires c = let h = c.requires in omega (arith, h.3, h.5)
+put_answer-requires c = let h = c.requires in omega (arith, h.2, h.4)
 
 pub returns : goal.returns
 returns c = c.put_answer.ensures

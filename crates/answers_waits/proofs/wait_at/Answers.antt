@@ -8,7 +8,7 @@ use Rattle.answers_waits.proofs.wait_at.Goals as goal
 
 pub wait_answer-requires : goal.wait_answer-requires
 unfolding lock_row task_row
-wait_answer-requires c = let h = c.requires in (h.0, h.1, h.2, ap (global _) c.lock_cell-m.ensures.is ∙ h.5, h.6, omega (arith, c.task_cell-limit.ensures.small))
+wait_answer-requires c = let h = c.requires in (h.0, h.1, ap (global _) c.lock_cell-m.ensures.is ∙ h.4, h.5, omega (arith, c.task_cell-limit.ensures.small))
 
 pub returns : goal.returns
 unfolding lock_row task_row

@@ -5,7 +5,4 @@ use Rattle.board_walks.specs.WalkLaws.{Pass}
 use Rattle.board_good.proofs.all_tasks_good.Given as goal
 
 abbrev pub invariant-loop-v : goal.invariant-loop-v
-invariant-loop-v l = Pass 16 (λ v. tasks_good l.view l.a l.ws v) l.v
-
-abbrev pub decreases-loop-v : goal.decreases-loop-v
-decreases-loop-v l = 16 - l.v
+invariant-loop-v l = Pass 16 (λ v. tasks_good l.view l.a l.ws v) (l.v - 1)

@@ -5,7 +5,4 @@ use Rattle.board_walks.specs.WalkLaws.{Pass}
 use Rattle.board_good.proofs.seats_good.Given as goal
 
 abbrev pub invariant-loop-m : goal.invariant-loop-m
-invariant-loop-m l = Pass 32 (λ m. seat_good l.a m) l.m
-
-abbrev pub decreases-loop-m : goal.decreases-loop-m
-decreases-loop-m l = 32 - l.m
+invariant-loop-m l = Pass 32 (λ m. seat_good l.a m) (l.m - 1)

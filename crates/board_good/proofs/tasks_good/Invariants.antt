@@ -5,7 +5,4 @@ use Rattle.board_walks.specs.WalkLaws.{Pass}
 use Rattle.board_good.proofs.tasks_good.Given as goal
 
 abbrev pub invariant-loop-n : goal.invariant-loop-n
-invariant-loop-n l = Pass 8 (λ n. task_good l.view l.a l.ws l.v n) l.n
-
-abbrev pub decreases-loop-n : goal.decreases-loop-n
-decreases-loop-n l = 8 - l.n
+invariant-loop-n l = Pass 8 (λ n. task_good l.view l.a l.ws l.v n) (l.n - 1)

@@ -5,7 +5,4 @@ use Rattle.board_reserves.specs.Supplies.{vcpu_good_at}
 use Rattle.board_supply.proofs.vcpus_good.Given as goal
 
 abbrev pub invariant-loop-v : goal.invariant-loop-v
-invariant-loop-v l = Pass 16 (λ v. vcpu_good_at l.policy l.view l.left l.over l.stopped l.holder v) l.v
-
-abbrev pub decreases-loop-v : goal.decreases-loop-v
-decreases-loop-v l = 16 - l.v
+invariant-loop-v l = Pass 16 (λ v. vcpu_good_at l.policy l.view l.left l.over l.stopped l.holder v) (l.v - 1)

@@ -17,4 +17,4 @@ pub returns-then-k-lt96 : goal.returns-then-k-lt96
 returns-then-k-lt96 c = c.ceiling_of.ensures.is ∙ ceiling_place _ _ c.if-k-lt64.false c.if-k-lt96.true
 
 pub returns : goal.returns
-returns c = c.bit_of.ensures ∙ ap bit c.has_task.ensures ∙ task_place _ _ c.if-k-lt96.false c.requires.1
+returns c = c.bit_of.ensures ∙ ap bit c.has_task.ensures ∙ task_place _ _ c.if-k-lt96.false c.requires

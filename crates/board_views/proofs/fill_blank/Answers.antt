@@ -9,7 +9,7 @@ pub loop-k-init : goal.loop-k-init
 loop-k-init c = written_none refl
 
 pub loop-k-preserved : goal.loop-k-preserved
-loop-k-preserved c = written_more (search rules) c.loop-k.invariant c.loop-k-test.true c.blank_cell-x.ensures
+loop-k-preserved c = written_more (search rules) c.loop-k.invariant c.loop-k-test.true c.blank_cell.ensures
 
 pub returns : goal.returns
 returns c = written_blank (search rules) c.loop-k.invariant c.loop-k-test.false

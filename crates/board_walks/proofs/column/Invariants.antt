@@ -7,6 +7,3 @@ use Rattle.board_walks.proofs.column.Given as goal
 
 abbrev pub invariant-loop-n : goal.invariant-loop-n
 invariant-loop-n l = Down 8 (λ n. eqb (get_or l.row (n - 1) 0) l.w) l.n
-
-abbrev pub decreases-loop-n : goal.decreases-loop-n
-decreases-loop-n l = l.n

@@ -6,7 +6,4 @@ use Rattle.board_walks.specs.WalkLaws.{Lack}
 use Rattle.board_walks.proofs.held_global.Given as goal
 
 abbrev pub invariant-loop-m : goal.invariant-loop-m
-invariant-loop-m l = Lack 32 (λ m. is_global l.view m && holds_it l.a l.v l.n m) l.m
-
-abbrev pub decreases-loop-m : goal.decreases-loop-m
-decreases-loop-m l = 32 - l.m
+invariant-loop-m l = Lack 32 (λ m. is_global l.view m && holds_it l.a l.v l.n m) (l.m - 1)

@@ -1,4 +1,5 @@
 -- The task holds no local mutex above m.
+use native.Mathlib.Omega.{arith}
 use mathlib.Core.Path.{◌∙◌, ap₂}
 use mathlib.Core.Bool.{◌&&◌}
 use Rattle.laws.specs.RangeLaws.{down_none, down_more, down_out, down_all}
@@ -14,4 +15,4 @@ pub loop-m-preserved : goal.loop-m-preserved
 loop-m-preserved c = down_more c.loop-m.invariant c.loop-m-test.true (c.both.ensures ∙ ap₂ ◌&&◌ c.is_local.ensures c.holds.ensures) c.if-both.false
 
 pub returns : goal.returns
-returns c = down_all c.loop-m.invariant c.loop-m-test.false
+returns c = down_all c.loop-m.invariant (omega arith)

@@ -6,6 +6,3 @@ use Rattle.board_walks.proofs.held_local.Given as goal
 
 abbrev pub invariant-loop-m : goal.invariant-loop-m
 invariant-loop-m l = Down 32 (λ m. is_local l.view l.v m && holds_it l.a l.v l.n m) l.m
-
-abbrev pub decreases-loop-m : goal.decreases-loop-m
-decreases-loop-m l = l.m

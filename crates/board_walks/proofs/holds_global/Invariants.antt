@@ -5,7 +5,4 @@ use Rattle.board_walks.specs.WalkLaws.{Lack}
 use Rattle.board_walks.proofs.holds_global.Given as goal
 
 abbrev pub invariant-loop-m : goal.invariant-loop-m
-invariant-loop-m l = Lack 32 (λ m. global_by l.view l.a l.v m) l.m
-
-abbrev pub decreases-loop-m : goal.decreases-loop-m
-decreases-loop-m l = 32 - l.m
+invariant-loop-m l = Lack 32 (λ m. global_by l.view l.a l.v m) (l.m - 1)

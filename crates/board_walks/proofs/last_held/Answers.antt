@@ -1,4 +1,5 @@
 -- The task holds no mutex above m.
+use native.Mathlib.Omega.{arith}
 use Rattle.laws.specs.RangeLaws.{down_none, down_more, down_out, down_all}
 use Rattle.board_walks.proofs.last_held.Goals as goal
 
@@ -12,4 +13,4 @@ pub loop-m-preserved : goal.loop-m-preserved
 loop-m-preserved c = down_more c.loop-m.invariant c.loop-m-test.true c.holds.ensures c.if-holds.false
 
 pub returns : goal.returns
-returns c = down_all c.loop-m.invariant c.loop-m-test.false
+returns c = down_all c.loop-m.invariant (omega arith)

@@ -1,4 +1,5 @@
 -- No task above n waits for a local mutex under the cap.
+use native.Mathlib.Omega.{arith}
 use mathlib.Core.Path.{◌∙◌, ap}
 use mathlib.Core.Bool.{◌&&◌}
 use borrow.Author.Rules.{rules}
@@ -16,4 +17,4 @@ pub loop-n-preserved : goal.loop-n-preserved
 loop-n-preserved c = down_more c.loop-n.invariant c.loop-n-test.true (c.both.ensures ∙ ap (λ t. t && leb c.loop-n.n c.args.cap) c.local_waiter.ensures) c.if-both.false
 
 pub returns : goal.returns
-returns c = (down_all c.loop-n.invariant c.loop-n-test.false, search rules)
+returns c = (down_all c.loop-n.invariant (omega arith), search rules)

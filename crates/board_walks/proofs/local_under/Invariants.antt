@@ -7,6 +7,3 @@ use Rattle.board_walks.proofs.local_under.Given as goal
 
 abbrev pub invariant-loop-n : goal.invariant-loop-n
 invariant-loop-n l = Down 8 (λ j. local_waiter l.view l.a l.v j && leb j l.cap) l.n
-
-abbrev pub decreases-loop-n : goal.decreases-loop-n
-decreases-loop-n l = l.n

@@ -1,5 +1,6 @@
 -- No mutex to m bars the task.
-use Rattle.board_walks.specs.WalkLaws.{pass_none, pass_more, pass_out, pass_all}
+use native.Mathlib.Omega.{arith}
+use Rattle.board_walks.specs.WalkLaws.{pass_none, pass_next, pass_here, pass_all}
 use mathlib.Core.Bool.{not}
 use mathlib.Core.Path.{ap}
 use Rattle.board_walks.proofs.passes.Goals as goal
@@ -8,10 +9,10 @@ pub loop-m-init : goal.loop-m-init
 loop-m-init c = pass_none
 
 pub returns-then-not-clears : goal.returns-then-not-clears
-returns-then-not-clears c = pass_out c.loop-m.invariant c.loop-m-test.true c.clears.ensures (ap not c.if-not-clears.true)
+returns-then-not-clears c = pass_here c.loop-m.invariant c.loop-m.auto.m c.loop-m-test.true c.clears.ensures (ap not c.if-not-clears.true)
 
 pub loop-m-preserved : goal.loop-m-preserved
-loop-m-preserved c = pass_more c.loop-m.invariant c.loop-m-test.true c.clears.ensures (ap not c.if-not-clears.false)
+loop-m-preserved c = pass_next c.loop-m.invariant c.loop-m.auto.m c.loop-m-test.true c.clears.ensures (ap not c.if-not-clears.false)
 
 pub returns : goal.returns
-returns c = pass_all c.loop-m.invariant c.loop-m-test.false
+returns c = pass_all c.loop-m.invariant (omega arith)

@@ -1,5 +1,7 @@
 -- No row above v has the mark.
-use mathlib.Core.Path.{refl, sym, ◌∙◌, ap}
+use Prim.Native.Nat.{◌+◌, ◌-◌}
+use mathlib.Core.Path.{◌≡◌, ◌∙◌, refl, sym, ap}
+use native.Mathlib.Omega.{arith}
 use borrow.Author.Rules.{rules}
 use borrow.Author.Tests.{lt-ltb, le-ltb}
 use lib.Dec.{ltb}
@@ -10,11 +12,13 @@ pub loop-v-init : goal.loop-v-init
 loop-v-init c = down_none
 
 pub returns-then-column-gt0 : goal.returns-then-column-gt0
-returns-then-column-gt0 c = (
-  down_out c.loop-v.invariant c.loop-v-test.true
-      (sym (lt-ltb _ _ c.if-column-gt0.true) ∙ ap (ltb 0) c.column.ensures.0) refl,
-  search rules,
-)
+returns-then-column-gt0 c =
+    let z : c.loop-v.v - 1 + 1 ≡ c.loop-v.v = omega arith in (
+      z
+          ∙ down_out c.loop-v.invariant c.loop-v-test.true
+          (sym (lt-ltb _ _ c.if-column-gt0.true) ∙ ap (ltb 0) c.column.ensures.0) refl,
+      search rules,
+    )
 
 pub loop-v-preserved : goal.loop-v-preserved
 loop-v-preserved c =

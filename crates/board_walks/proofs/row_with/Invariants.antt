@@ -9,6 +9,3 @@ use Rattle.board_walks.proofs.row_with.Given as goal
 
 abbrev pub invariant-loop-v : goal.invariant-loop-v
 invariant-loop-v l = Down 16 (λ v. ltb 0 (column_of (get_or l.rows (v - 1) []) l.w)) l.v
-
-abbrev pub decreases-loop-v : goal.decreases-loop-v
-decreases-loop-v l = l.v

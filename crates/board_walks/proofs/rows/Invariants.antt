@@ -1,5 +1,4 @@
 -- The rows to v are filled.
-use Prim.Native.Nat.{◌-◌}
 use mathlib.Core.List.{[]}
 use Rattle.board_walks.specs.Walks.{row_of}
 use Rattle.board_walks.specs.WalkLaws.{Filled}
@@ -7,6 +6,3 @@ use Rattle.board_walks.proofs.rows.Given as goal
 
 abbrev pub invariant-loop-v : goal.invariant-loop-v
 invariant-loop-v l = Filled [] 16 (λ v. row_of l.a v) l.rows l.v
-
-abbrev pub decreases-loop-v : goal.decreases-loop-v
-decreases-loop-v l = 16 - l.v

@@ -4,7 +4,7 @@ use Rattle.clock.proofs.tell_asked.Goals as goal
 pub tell_plan-requires : goal.tell_plan-requires
 tell_plan-requires g c =
     let q = c.requires in
-    let h = c.in-Until in
+    let h = c.in-Ok in
     (q.0, until_to c.args.src.now c.horizon_from.ensures h.h h.is, q.1)
 
 pub refused_alone-w-requires : goal.refused_alone-w-requires

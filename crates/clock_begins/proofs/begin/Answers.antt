@@ -5,11 +5,14 @@ use Rattle.clock_begins.specs.TableLaws.{given_paired, given_ordered, given_pace
 use Rattle.clock_begins.specs.Begins.{begins}
 use Rattle.clock_begins.proofs.begin.Goals as goal
 
+pub invariant_of-t : goal.invariant_of-t
+invariant_of-t c = record { fit = given_fit _ _ c.requires.ts_value.0 }
+
 pub fill_view-requires : goal.fill_view-requires
-fill_view-requires c = let q = c.requires.ts_value in (given_fit _ _ q.0, omega (arith, q.1))
+fill_view-requires c = let q = c.requires.ts_value in omega (arith, q.1)
 
 pub fill_times-requires : goal.fill_times-requires
-fill_times-requires c = let q = c.requires.ts_value in (given_fit _ _ q.0, q.2)
+fill_times-requires c = c.requires.ts_value.2
 
 pub start-requires : goal.start-requires
 start-requires c =

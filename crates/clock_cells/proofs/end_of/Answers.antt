@@ -8,18 +8,18 @@ use Rattle.clock_cells.proofs.end_of.Goals as goal
 pub start_of-requires : goal.start_of-requires
 start_of-requires c =
     let p = c.requires in
-    (p.0, lock_within _ _ _ _ p.1 c.has_lock.ensures c.if-has_lock.true, search rules)
+    (lock_within _ _ _ _ p.0 c.has_lock.ensures c.if-has_lock.true, search rules)
 
 pub lock_cell-requires : goal.lock_cell-requires
 lock_cell-requires c =
     let p = c.requires in
-    (p.0, lock_within _ _ _ _ p.1 c.has_lock.ensures c.if-has_lock.true, search rules, search rules)
+    (lock_within _ _ _ _ p.0 c.has_lock.ensures c.if-has_lock.true, search rules, search rules)
 
 pub returns-then-has_lock : goal.returns-then-has_lock
 unfolding lock_row
 returns-then-has_lock c =
     let p = c.requires in
-    end_is _ _ _ _ p.1 c.has_lock.ensures c.if-has_lock.true c.start_of.ensures.is c.lock_cell.ensures.is
+    end_is _ _ _ _ p.0 c.has_lock.ensures c.if-has_lock.true c.start_of.ensures.is c.lock_cell.ensures.is
 
 pub returns-else-has_lock : goal.returns-else-has_lock
 returns-else-has_lock c = sym (end_none _ _ c.has_lock.ensures c.if-has_lock.false)

@@ -1,22 +1,19 @@
--- `put_bounds` meets its contract: the cells before this one are 0.
-use mathlib.Core.Path.{refl}
-use borrow.Author.Rules.{rules}
-use native.Mathlib.Omega.{arith}
-use Rattle.clock_nexts.specs.WriteLaws.{wrote_none, wrote_more, wrote_to}
+-- `put_bounds` meets its contract: the cells from 144 to before 162 are 0.
+use Rattle.std.proofs.Common.{◌≡◌, ◌-◌, length, get_or, take, drop, replicate, ap, ◌∙◌, arith, rules, length-take-le, length-drop}
+use Rattle.std.proofs.lemmas.List.{get_or-replicate}
+use Rattle.clock_firsts.proofs.Fills.{part_length, part_in, part_out}
 use Rattle.clock_firsts.proofs.put_bounds.Goals as goal
 
-pub loop-i-init : goal.loop-i-init
-loop-i-init c = (wrote_none, search rules, search rules)
-
-pub loop-i-preserved : goal.loop-i-preserved
-loop-i-preserved c =
-    let h = c.loop-i.invariant in
-    let l = c.loop-i-test.true in
-    let e = c.requires in
-    (wrote_more h.0 h.1 (omega arith) refl, search rules, search rules)
-
-pub shape_of-nexts : goal.shape_of-nexts
-shape_of-nexts c = c.loop-i.invariant.0.length_same
-
 pub returns : goal.returns
-returns c = let h = c.loop-i.invariant in wrote_to h.0 h.2 c.loop-i-test.false
+returns c =
+    let y = c.args.nexts.now in
+    let z = c.fill.new.self in
+    let p = c.requires in
+    let l : length (take 18 (drop 144 y)) ≡ 18 = length-take-le 18 (drop 144 y) (omega (arith, length-drop 144 y)) in
+    let e : z ≡ replicate 18 0 = c.fill.ensures.after (λ x h. search rules) ∙ ap (λ n. replicate n 0) l in
+    let long : length z ≡ 18 = c.fill.ensures.len ∙ l in
+    record {
+      length_same = part_length 144 18 y z (omega arith) long;
+      new = λ j h m. part_in 144 18 y z (omega arith) long j h m ∙ ap (λ x. get_or x (j - 144) 0) e ∙ get_or-replicate 18 (j - 144) 0 0 (omega arith);
+      else_same = λ j h. part_out 144 18 y z (omega arith) long j h;
+    }

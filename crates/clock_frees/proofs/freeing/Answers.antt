@@ -1,7 +1,7 @@
 -- `freeing` meets its contract.
 use mathlib.Core.Path.{sym, subst}
 use Rattle.board_rules.specs.Lent.{board_of}
-use Rattle.board_rules.specs.View.{facts_in}
+use Rattle.board_rules.specs.PlanViews.{facts}
 use Rattle.clock_uses.specs.Using.{going_marked_any}
 use Rattle.clock_hands.specs.Freed.{NextIn, free_none, free_clear, free_named, free_got, free_room, free_one}
 use Rattle.clock_frees.specs.Handing.{free_none_hands, free_hands}
@@ -11,7 +11,7 @@ pub returns-then-m-eq0 : goal.returns-then-m-eq0
 returns-then-m-eq0 c =
     let a = c.args in
     let q = c.requires.v_nonzero in
-    let r = free_none q.4 a.v a.n a.m (record { from = q.0; to = q.1 }) (record { from = q.2; to = q.3 }) q.5 a.on a.t a.out.now a.at c.if-m-eq0.true in record { mirrors = r.0; made = r.1.0; marks_unchanged = r.1.1; handed_value = free_none_hands (facts_in a.policy a.choice a.view.now) (board_of a.left.now a.over.now a.stopped.now a.holder.now a.waits.now) a.v a.n a.m c.if-m-eq0.true }
+    let r = free_none q.4 a.v a.n a.m (record { from = q.0; to = q.1 }) (record { from = q.2; to = q.3 }) q.5 a.on a.t a.out.now a.at c.if-m-eq0.true in record { mirrors = r.0; made = r.1.0; marks_unchanged = r.1.1; handed_value = free_none_hands (facts a.plan.now) (board_of a.left.now a.over.now a.stopped.now a.holder.now a.waits.now) a.v a.n a.m c.if-m-eq0.true }
 
 pub free_sure-a-requires : goal.free_sure-a-requires
 free_sure-a-requires c =
@@ -62,4 +62,4 @@ returns c =
     let e = u.ensures a.over.now in
     let nz = c.if-m-eq0.false in
     let d = c.next_in-next.ensures in
-    let r = free_one q.4 a.v a.n a.m (record { from = q.0; to = q.1 }) (record { from = q.2; to = q.3 }) q.5 a.on a.t a.out.now a.at nz {ss' = u.new.stopped} {hs' = u.new.holder} {ws' = u.new.waits} {y = u.result} e d c.after_free.ensures l.value l.out_after in record { mirrors = r.0; made = r.1.0; marks_unchanged = r.1.1; handed_value = free_hands (facts_in a.policy a.choice a.view.now) (board_of a.left.now a.over.now a.stopped.now a.holder.now a.waits.now) a.v a.n a.m nz {y = u.result} {b' = board_of a.left.now a.over.now u.new.stopped u.new.holder u.new.waits} e d c.goes_on-handed.ensures }
+    let r = free_one q.4 a.v a.n a.m (record { from = q.0; to = q.1 }) (record { from = q.2; to = q.3 }) q.5 a.on a.t a.out.now a.at nz {ss' = u.new.stopped} {hs' = u.new.holder} {ws' = u.new.waits} {y = u.result} e d c.after_free.ensures l.value l.out_after in record { mirrors = r.0; made = r.1.0; marks_unchanged = r.1.1; handed_value = free_hands (facts a.plan.now) (board_of a.left.now a.over.now a.stopped.now a.holder.now a.waits.now) a.v a.n a.m nz {y = u.result} {b' = board_of a.left.now a.over.now u.new.stopped u.new.holder u.new.waits} e d c.goes_on-handed.ensures }

@@ -5,20 +5,14 @@ use Rattle.clock_nexts.proofs.recurring.Goals as goal
 pub loop-i-init : goal.loop-i-init
 loop-i-init c = gathered_first _
 
-pub overflow_add-i : goal.overflow_add-i
-overflow_add-i c = let t = c.loop-i-test.true in omega arith
-
 pub overflow_add-i-in-loop-i : goal.overflow_add-i-in-loop-i
 overflow_add-i-in-loop-i c = let t = c.loop-i-test.true in omega arith
 
 pub gather-s-requires : goal.gather-s-requires
 gather-s-requires c = let g = c.loop-i.invariant in let t = c.loop-i-test.true in (omega arith, omega arith, g.is_set)
 
-pub overflow_add-i-in-loop-i-2 : goal.overflow_add-i-in-loop-i-2
-overflow_add-i-in-loop-i-2 c = let t = c.loop-i-test.true in omega arith
-
-pub loop-i-smaller : goal.loop-i-smaller
-loop-i-smaller c = let t = c.loop-i-test.true in omega arith
+pub overflow_add-i : goal.overflow_add-i
+overflow_add-i c = let t = c.loop-i-test.true in omega arith
 
 pub loop-i-preserved : goal.loop-i-preserved
 loop-i-preserved c = gathered_more c.loop-i.invariant c.loop-i-test.true c.at-p.ensures c.gather-s.ensures

@@ -1,9 +1,5 @@
 use Rattle.clock_nexts.specs.Gather.{Gathered}
-use Prim.Native.Nat.{◌-◌}
 use Rattle.clock_nexts.proofs.recurring.Given as goal
 
 abbrev pub invariant-loop-i : goal.invariant-loop-i
 invariant-loop-i l = Gathered l.times l.i l.s
-
-abbrev pub decreases-loop-i : goal.decreases-loop-i
-decreases-loop-i l = 16 - l.i

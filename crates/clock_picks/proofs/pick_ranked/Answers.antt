@@ -30,5 +30,5 @@ loop-n-preserved c =
 pub returns : goal.returns
 returns c =
     let a = c.args in
-    let e = scan_all (λ j g y z. rank_some a.view.now a.waits.now a.v (held_cell a.marks.now a.v j) j g) c.loop-n.invariant c.loop-n-test.false in
+    let e = scan_all (λ j g y z. rank_some a.view.now a.waits.now a.v (held_cell a.marks.now a.v j) j g) c.loop-n.invariant (omega arith) in
     (e, rw e (top_le 8 (in_set a.set) (λ j. rank_of a.view.now a.waits.now a.v (held_cell a.marks.now a.v j) j)))

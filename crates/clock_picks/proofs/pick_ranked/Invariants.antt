@@ -7,6 +7,3 @@ use Rattle.clock_picks.proofs.pick_ranked.Given as goal
 
 abbrev pub invariant-loop-n : goal.invariant-loop-n
 invariant-loop-n l = Scanned 8 (in_set l.set) (λ j. rank_of l.view l.waits l.v (held_cell l.marks l.v j) j) l.n l.best l.high
-
-abbrev pub decreases-loop-n : goal.decreases-loop-n
-decreases-loop-n l = l.n

@@ -1,10 +1,6 @@
 -- `renew_rows` meets its contract: the rows of the first i VCPUs are renewed.
-use Prim.Native.Nat.{◌-◌}
 use Rattle.clock_nexts.specs.Nexts.{RowsRenewed}
 use Rattle.clock_renews.proofs.renew_rows.Given as goal
 
 abbrev pub invariant-loop-i : goal.invariant-loop-i
 invariant-loop-i l = RowsRenewed l.times l.initial.nexts l.nexts l.t l.i
-
-abbrev pub decreases-loop-i : goal.decreases-loop-i
-decreases-loop-i l = 16 - l.i

@@ -1,22 +1,20 @@
-use Rattle.clock_spends.specs.Putting.{clearing_first, clearing_more, forgot_all}
-use native.Mathlib.Omega.{arith}
+-- `forget` meets its contract: the first eight cells are 0.
+use Rattle.std.proofs.Common.{ℕ, ◌≡◌, ◌≤◌, List, ◌++◌, length, get_or, take, drop, replicate, ap, ◌∙◌, arith, rules, length-take-le, length-append, length-drop}
+use Rattle.std.proofs.lemmas.List.{get_or-replicate, get_or_append_left}
+use Rattle.clock_spends.specs.Putting.{Clearing, forgot_all}
 use Rattle.clock_spends.proofs.forget.Goals as goal
 
-pub loop-i-init : goal.loop-i-init
-loop-i-init c = clearing_first c.args.plain.now
-
-pub bounds-plain-i : goal.bounds-plain-i
-bounds-plain-i c =
-    let l = c.requires in
-    let e = c.loop-i.invariant.long in
-    let t = c.loop-i-test.true in
-    omega arith
-
-pub loop-i-smaller : goal.loop-i-smaller
-loop-i-smaller c = let t = c.loop-i-test.true in omega arith
-
-pub loop-i-preserved : goal.loop-i-preserved
-loop-i-preserved c = clearing_more c.loop-i.invariant c.loop-i-test.true
+cleared : (l z : List ℕ) → 8 ≤ length l → length z ≡ 8 → z ≡ replicate 8 0 → Clearing l 8 (z ++ drop 8 l)
+cleared l z r n e = record {
+  to = omega arith;
+  long = length-append z (drop 8 l) ∙ omega (arith, length-drop 8 l);
+  zeros = λ j m. get_or_append_left z (drop 8 l) 0 j (omega arith) ∙ ap (λ x. get_or x j 0) e ∙ get_or-replicate 8 j 0 0 m;
+}
 
 pub returns : goal.returns
-returns c = let l = c.loop-i-test.false in forgot_all c.loop-i.invariant (omega arith)
+returns c =
+    let y = c.args.plain.now in
+    let p = c.requires in
+    let l : length (take 8 y) ≡ 8 = length-take-le 8 y (omega arith) in
+    let e = c.fill.ensures.after (λ x h. search rules) ∙ ap (λ n. replicate n 0) l in
+    forgot_all (cleared y c.fill.new.self (omega arith) (c.fill.ensures.len ∙ l) e) (omega arith)

@@ -9,12 +9,6 @@ loop-c-init c = let q = c.requires in record { to_core = omega arith; going = q.
 pub turn_on-requires : goal.turn_on-requires
 turn_on-requires c = let i = c.loop-c.invariant in let l = c.loop-c-test.true in (i.going, i.counted, omega arith)
 
-pub overflow_add-c : goal.overflow_add-c
-overflow_add-c c = let l = c.loop-c-test.true in omega arith
-
-pub loop-c-smaller : goal.loop-c-smaller
-loop-c-smaller c = let l = c.loop-c-test.true in omega arith
-
 pub loop-c-preserved : goal.loop-c-preserved
 loop-c-preserved c = rest_more c.loop-c.invariant c.loop-c-test.true c.turn_on.ensures
 

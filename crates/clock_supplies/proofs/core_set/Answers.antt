@@ -10,18 +10,12 @@ pub loop-v-init : goal.loop-v-init
 loop-v-init c = (omega arith, omega arith, core_none _ _)
 
 pub put-s-requires : goal.put-s-requires
-put-s-requires c = let i = c.loop-v.invariant in (i.2.is_set, i.0, c.loop-v-test.true)
-
-pub overflow_add-v : goal.overflow_add-v
-overflow_add-v c = omega arith
-
-pub loop-v-smaller : goal.loop-v-smaller
-loop-v-smaller c = omega arith
+put-s-requires c = let i = c.loop-v.invariant in (i.2.is_set, i.0, omega arith)
 
 pub loop-v-preserved : goal.loop-v-preserved
 loop-v-preserved c = let i = c.loop-v.invariant in
     let core = c.args.c in
-    (omega arith, omega arith, core_more _ _ _ _ _ c.loop-v-test.true i.2 (ap (λ (y : ℕ). eqb y core) c.figure.ensures) c.put-s.ensures)
+    (omega arith, omega arith, core_more _ _ _ _ _ (omega arith) i.2 (ap (λ (y : ℕ). eqb y core) c.figure.ensures) c.put-s.ensures)
 
 pub returns : goal.returns
 returns c = core_all c.loop-v-test.false c.loop-v.invariant.2

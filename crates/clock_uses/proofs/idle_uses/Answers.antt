@@ -62,14 +62,14 @@ loop-rest-preserved c =
     let a = c.args in
     let k = c.loop-rest in
     let v = c.lowest_in-v.result in
-    let u : UsedOne a.policy a.choice a.view.now a.times.now k.left k.over k.stopped a.holder.now a.waits.now k.marks a.on a.t v k.out k.w c.if-figure-gt1.left c.if-figure-gt1.over c.if-figure-gt1.stopped c.if-figure-gt1.marks c.if-figure-gt1.out c.if-figure-gt1.w =
+    let u : UsedOne a.plan.now.policy a.plan.now.overrun a.plan.now.view.now a.times.now k.left k.over k.stopped a.holder.now a.waits.now k.marks a.on a.t v k.out k.w c.if-figure-gt1.left c.if-figure-gt1.over c.if-figure-gt1.stopped c.if-figure-gt1.marks c.if-figure-gt1.out c.if-figure-gt1.w =
     elim c.if-figure-gt1.branch [
       | then-figure-gt1 w ↦
-          used_one a.policy a.choice a.view.now a.times.now k.left k.over k.stopped a.holder.now a.waits.now k.marks a.on a.t v k.out k.w
+          used_one a.plan.now.policy a.plan.now.overrun a.plan.now.view.now a.times.now k.left k.over k.stopped a.holder.now a.waits.now k.marks a.on a.t v k.out k.w
           (within_result k.invariant.1 v {y = w.use_within-a.result} (w.use_within-a.ensures a.waits.now) a.on a.t k.out k.w (subst (λ y. 1 < y) c.figure.ensures w.if-figure-gt1.true) w.tell-w.ensures.value w.tell-w.ensures.out_after)
           w.left-is w.over-is w.stopped-is w.marks-is w.out-is w.w-is
       | else-figure-gt1 w ↦
-          used_one a.policy a.choice a.view.now a.times.now k.left k.over k.stopped a.holder.now a.waits.now k.marks a.on a.t v k.out k.w
+          used_one a.plan.now.policy a.plan.now.overrun a.plan.now.view.now a.times.now k.left k.over k.stopped a.holder.now a.waits.now k.marks a.on a.t v k.out k.w
           (w.use_one-w.ensures.going, (w.use_one-w.ensures.made, w.use_one-w.ensures.marks_unchanged)) w.left-is w.over-is w.stopped-is w.marks-is w.out-is w.w-is
     ]
     in

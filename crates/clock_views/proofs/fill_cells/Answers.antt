@@ -4,7 +4,7 @@ use Rattle.clock_cells.specs.FillLaws.{listed_is, listed_more, listed_none}
 use Rattle.clock_views.proofs.fill_cells.Goals as goal
 
 pub loop-k-init : goal.loop-k-init
-loop-k-init c = listed_none c.requires.2
+loop-k-init c = listed_none c.requires.1
 
 pub loop-k-preserved : goal.loop-k-preserved
 loop-k-preserved c = listed_more c.loop-k.invariant c.loop-k-test.true c.times_cell-x.ensures

@@ -3,7 +3,7 @@ use Rattle.clock_cells.specs.FillLaws.{listed_all, listed_more, listed_none}
 use Rattle.clock_views.proofs.fill_rows.Goals as goal
 
 pub loop-i-init : goal.loop-i-init
-loop-i-init c = listed_none c.requires.1
+loop-i-init c = listed_none c.requires
 
 pub loop-i-preserved : goal.loop-i-preserved
 loop-i-preserved c = listed_more c.loop-i.invariant c.loop-i-test.true c.task_row-a.ensures

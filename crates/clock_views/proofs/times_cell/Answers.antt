@@ -12,12 +12,12 @@ returns-then-k-lt32 c = c.refill_of.ensures ∙ refill_place _ _ c.if-k-lt16.fal
 pub returns-then-k-lt160 : goal.returns-then-k-lt160
 returns-then-k-lt160 c =
     let p = c.requires in
-    c.period_of.ensures ∙ period_place _ _ _ _ _ p.1 _ c.if-k-lt32.false c.if-k-lt160.true
+    c.period_of.ensures ∙ period_place _ _ _ _ _ p.0 _ c.if-k-lt32.false c.if-k-lt160.true
 
 pub returns-then-k-lt288 : goal.returns-then-k-lt288
 returns-then-k-lt288 c =
     let p = c.requires in
-    c.lengths_of.ensures ∙ lengths_place _ _ _ _ _ p.1 _ c.if-k-lt160.false c.if-k-lt288.true
+    c.lengths_of.ensures ∙ lengths_place _ _ _ _ _ p.0 _ c.if-k-lt160.false c.if-k-lt288.true
 
 pub returns : goal.returns
 returns c = lock_place _ _ c.if-k-lt288.false c.lock_time.ensures

@@ -8,17 +8,17 @@ use Rattle.clock_works.proofs.work.Goals as goal
 use Rattle.clock_works.proofs.work.Goals.{Joined-figure-gt1, then-figure-gt1, else-figure-gt1}
 
 -- where the two ways meet the tick is used
-used_now : (c : Joined-figure-gt1) → (let a = c.args in UsedOne a.policy a.choice a.view.now a.times.now a.left.now a.over.now a.stopped.now a.holder.now a.waits.now a.marks.now a.on a.t a.v a.out.now a.at c.if-figure-gt1.left c.if-figure-gt1.over c.if-figure-gt1.stopped c.if-figure-gt1.marks c.if-figure-gt1.out c.if-figure-gt1.used)
+used_now : (c : Joined-figure-gt1) → (let a = c.args in UsedOne a.plan.now.policy a.plan.now.overrun a.plan.now.view.now a.times.now a.left.now a.over.now a.stopped.now a.holder.now a.waits.now a.marks.now a.on a.t a.v a.out.now a.at c.if-figure-gt1.left c.if-figure-gt1.over c.if-figure-gt1.stopped c.if-figure-gt1.marks c.if-figure-gt1.out c.if-figure-gt1.used)
 used_now c =
     let a = c.args in
     let q = c.requires in
     elim c.if-figure-gt1.branch [
       | then-figure-gt1 w ↦
-          used_one a.policy a.choice a.view.now a.times.now a.left.now a.over.now a.stopped.now a.holder.now a.waits.now a.marks.now a.on a.t a.v a.out.now a.at
+          used_one a.plan.now.policy a.plan.now.overrun a.plan.now.view.now a.times.now a.left.now a.over.now a.stopped.now a.holder.now a.waits.now a.marks.now a.on a.t a.v a.out.now a.at
           (within_result q.going.0 a.v {y = w.use_within-a.result} (w.use_within-a.ensures a.waits.now) a.on a.t a.out.now a.at (subst (λ y. 1 < y) c.figure.ensures w.if-figure-gt1.true) w.tell-used.ensures.value w.tell-used.ensures.out_after)
           w.left-is w.over-is w.stopped-is w.marks-is w.out-is w.used-is
       | else-figure-gt1 w ↦
-          used_one a.policy a.choice a.view.now a.times.now a.left.now a.over.now a.stopped.now a.holder.now a.waits.now a.marks.now a.on a.t a.v a.out.now a.at
+          used_one a.plan.now.policy a.plan.now.overrun a.plan.now.view.now a.times.now a.left.now a.over.now a.stopped.now a.holder.now a.waits.now a.marks.now a.on a.t a.v a.out.now a.at
           (w.use_one-used.ensures.going, (w.use_one-used.ensures.made, w.use_one-used.ensures.marks_unchanged)) w.left-is w.over-is w.stopped-is w.marks-is w.out-is w.used-is
     ]
 

@@ -2,4 +2,4 @@
 use Rattle.figures_blocks.proofs.longest_at.Goals as goal
 
 pub returns : goal.returns
-returns c = c.requires.1.longest.at _ c.requires.2
+returns c = c.requires.0.longest.at _ c.requires.1

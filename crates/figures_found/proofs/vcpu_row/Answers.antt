@@ -1,12 +1,12 @@
 -- `vcpu_row` meets its contract: no row before this one is VCPU v.
-use Prim.Native.Nat.{◌-◌}
+use native.Mathlib.Omega.{arith}
 use Rattle.figures_found.specs.First.{first_here, first_none}
 use Rattle.figures.specs.Figures.{no_vcpu}
 use Rattle.laws.specs.RowLaws.{lacking_more, lacking_none}
 use Rattle.plan_tables.specs.Layout.{vcpu_row}
 use borrow.Author.Tests.{eq-eqb, ne_eqb}
 use lib.Dec.{eqb}
-use mathlib.Core.Path.{◌∙◌, ap₂, refl, sym}
+use mathlib.Core.Path.{◌≡◌, ◌∙◌, ap₂, refl, sym}
 use Rattle.figures_found.proofs.vcpu_row.Goals as goal
 
 pub loop-a-init : goal.loop-a-init
@@ -23,4 +23,6 @@ loop-a-preserved c = lacking_more c.loop-a.invariant c.loop-a-test.true (ap₂ e
 
 pub returns : goal.returns
 unfolding vcpu_row
-returns c = first_none no_vcpu c.loop-a.invariant c.loop-a-test.false
+returns c =
+    let e : c.loop-a.a ≡ c.args.t.now.plan.vcpus = omega arith in
+    rw e at (first_none no_vcpu c.loop-a.invariant c.loop-a-test.false)

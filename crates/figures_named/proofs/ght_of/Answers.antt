@@ -1,5 +1,4 @@
 -- `ght_of` meets its contract.
-use Prim.Native.Nat.{◌-◌}
 use Rattle.figures.specs.Figures.{ght}
 use Rattle.figures.specs.Tabled.{system_in}
 use Rattle.laws.specs.RowLaws.{summed_all, summed_more, summed_none}

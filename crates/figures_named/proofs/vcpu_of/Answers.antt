@@ -4,5 +4,5 @@ use Rattle.figures_named.proofs.vcpu_of.Goals as goal
 
 pub returns : goal.returns
 returns c = let e = c.vcpu_row.ensures in
-    let l = vcpu_within c.args.r _ _ e c.requires.1 in
+    let l = vcpu_within c.args.t.now.plan _ _ e c.requires in
     (l, vcpu_is _ _ _ e _ _ l)

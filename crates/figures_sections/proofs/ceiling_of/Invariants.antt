@@ -1,5 +1,4 @@
 -- `ceiling_of` meets its contract.
-use Prim.Native.Nat.{◌-◌}
 use Rattle.figures.specs.Figures.{locks_it}
 use Rattle.laws.specs.Choice.{when}
 use Rattle.laws.specs.Rows.{Greatest}
@@ -7,7 +6,4 @@ use Rattle.plan_tables.specs.Layout.{task_row}
 use Rattle.figures_sections.proofs.ceiling_of.Given as goal
 
 abbrev pub invariant-loop-h : goal.invariant-loop-h
-invariant-loop-h l = Greatest (λ k. when (locks_it l.m k) k.n) (task_row l.ts) 1000000 l.n l.s l.h
-
-abbrev pub decreases-loop-h : goal.decreases-loop-h
-decreases-loop-h l = l.n - l.h
+invariant-loop-h l = Greatest (λ k. when (locks_it l.m k) k.n) (task_row l.t.tasks.now) 1000000 l.n l.s l.h

@@ -1,5 +1,4 @@
 -- `fill_blockings` meets its contract: the rows before this one are stored.
-use Prim.Native.Nat.{◌-◌}
 use Rattle.figures_slices.specs.StoredLaws.{values_all, values_more, values_none, tasks_keep}
 use lib.ListN.{length-set}
 use mathlib.Core.Path.{refl}
@@ -7,7 +6,7 @@ use native.Mathlib.Omega.{arith}
 use Rattle.figures_stored.proofs.fill_blockings.Goals as goal
 
 pub loop-i-init : goal.loop-i-init
-loop-i-init c = (refl, c.requires.1, values_none)
+loop-i-init c = (refl, c.requires, values_none)
 
 pub loop-i-preserved : goal.loop-i-preserved
 loop-i-preserved c = let h = c.loop-i.invariant in (

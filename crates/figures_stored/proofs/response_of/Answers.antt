@@ -11,7 +11,7 @@ use Rattle.figures_stored.proofs.response_of.Goals as goal
 
 pub vcpu_of-a-requires : goal.vcpu_of-a-requires
 unfolding load higher_sum lock_row task_row system_in
-vcpu_of-a-requires c = let h = c.requires in (h.0, rw c.task_cell.ensures.is (h.0.task_vcpu _ h.4))
+vcpu_of-a-requires c = let h = c.requires in (rw c.task_cell.ensures.is (c.args.t.now.fit.task_vcpu _ h.3))
 
 pub overflow_add-load : goal.overflow_add-load
 unfolding load higher_sum lock_row task_row system_in
@@ -20,7 +20,7 @@ overflow_add-load c = omega (arith, c.lock_cell.ensures.small, c.higher_sum.ensu
 pub response_on-requires : goal.response_on-requires
 unfolding load higher_sum lock_row task_row system_in
 response_on-requires c = let h = c.requires in
-    (h.0, h.2, h.3, c.vcpu_of-a.ensures.0, omega (arith, c.lock_cell.ensures.small, c.higher_sum.ensures.small))
+    (h.1, h.2, c.vcpu_of-a.ensures.0, omega (arith, c.lock_cell.ensures.small, c.higher_sum.ensures.small))
 
 pub returns : goal.returns
 unfolding load higher_sum lock_row task_row system_in

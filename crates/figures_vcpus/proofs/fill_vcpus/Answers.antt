@@ -1,5 +1,4 @@
 -- `fill_vcpus` meets its contract: the rows before this one are stored.
-use Prim.Native.Nat.{◌-◌}
 use Rattle.figures.specs.Figures.{ght}
 use Rattle.figures.specs.PartLaws.{is_then}
 use Rattle.figures.specs.Tabled.{system_in}
@@ -11,7 +10,7 @@ use Rattle.figures_vcpus.proofs.fill_vcpus.Goals as goal
 
 pub loop-a-init : goal.loop-a-init
 unfolding vcpu_row system_in
-loop-a-init c = (refl, vcpus_none c.requires.1)
+loop-a-init c = (refl, vcpus_none c.requires)
 
 pub overflow_add-x : goal.overflow_add-x
 unfolding vcpu_row system_in
@@ -19,7 +18,7 @@ overflow_add-x c = omega (arith, c.overrun_by.ensures.small, c.vcpu_cell-in-loop
 
 pub put_vcpu-requires : goal.put_vcpu-requires
 unfolding vcpu_row system_in
-put_vcpu-requires c = omega (arith, c.loop-a-test.true, c.loop-a.invariant.1.room, c.requires.0.vcpus_few)
+put_vcpu-requires c = omega (arith, c.loop-a-test.true, c.loop-a.invariant.1.room, c.args.t.now.fit.vcpus_few)
 
 pub loop-a-preserved : goal.loop-a-preserved
 unfolding vcpu_row system_in
@@ -27,7 +26,7 @@ loop-a-preserved c = let h = c.loop-a.invariant in
     let g = is_then c.ght_of-g.ensures (ap (ght _) c.vcpu_cell.ensures.is) in (
       c.put_vcpu.auto.vf ∙ h.0,
       rw c.put_vcpu.ensures
-          (vcpus_more _ h.1 (omega (arith, c.loop-a-test.true, c.requires.0.vcpus_few)) g
+          (vcpus_more _ h.1 (omega (arith, c.loop-a-test.true, c.args.t.now.fit.vcpus_few)) g
           (start_is _ _ c.vcpu_cell-in-loop-a.ensures g c.overrun_by.ensures)),
     )
 

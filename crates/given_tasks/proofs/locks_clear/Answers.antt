@@ -1,4 +1,3 @@
-use Prim.Native.Nat.{◌-◌}
 use Rattle.laws.specs.RowLaws.{passed_none, passed_more, passed_out, passed_all}
 use mathlib.Core.Bool.{not}
 use mathlib.Core.Path.{ap}

@@ -1,4 +1,3 @@
-use Prim.Native.Nat.{◌-◌}
 use Rattle.given_test.specs.FeedLaws.{fed_none, fed_more, fed_all}
 use Rattle.given_test.proofs.fed_vcpus.Goals as goal
 

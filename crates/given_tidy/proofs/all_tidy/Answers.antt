@@ -1,4 +1,3 @@
-use Prim.Native.Nat.{◌-◌}
 use Rattle.laws.specs.RowLaws.{passed_none, passed_more, passed_out, passed_all}
 use Rattle.given_tidy.specs.Tests.{all_tidy}
 use mathlib.Core.Bool.{not}

@@ -1,4 +1,3 @@
-use Prim.Native.Nat.{◌-◌}
 use Rattle.laws.specs.RowLaws.{lacking_none}
 use Rattle.given_tidy.specs.GuestLaws.{guest_more, guest_hit, guest_none}
 use Rattle.given_tidy.proofs.guest_in.Goals as goal

@@ -1,4 +1,3 @@
-use Prim.Native.Nat.{◌-◌}
 use Rattle.laws.specs.Rows.{Lacking}
 use Rattle.plan_tables.specs.Layout.{vcpu_row}
 use Rattle.given_tidy.specs.GuestLaws.{named}
@@ -6,6 +5,3 @@ use Rattle.given_tidy.proofs.guest_in.Given as goal
 
 abbrev pub invariant-loop-i : goal.invariant-loop-i
 invariant-loop-i l = Lacking (named l.v) (vcpu_row l.t) l.n l.i
-
-abbrev pub decreases-loop-i : goal.decreases-loop-i
-decreases-loop-i l = l.n - l.i

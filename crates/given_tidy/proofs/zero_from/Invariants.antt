@@ -1,4 +1,4 @@
-use Prim.Native.Nat.{◌+◌, ◌-◌}
+use Prim.Native.Nat.{◌+◌}
 use lib.Dec.{eqb}
 use Rattle.laws.specs.Rows.{Passed}
 use Rattle.plan_tables.specs.Layout.{task_width, cell}
@@ -6,6 +6,3 @@ use Rattle.given_tidy.proofs.zero_from.Given as goal
 
 abbrev pub invariant-loop-j : goal.invariant-loop-j
 invariant-loop-j l = Passed (λ x. eqb x 0) (λ k. cell l.t task_width l.i (l.c + k)) l.n l.j
-
-abbrev pub decreases-loop-j : goal.decreases-loop-j
-decreases-loop-j l = l.n - l.j

@@ -1,5 +1,4 @@
 -- `push_named` meets its contract: the places of the tasks among the rows before this one are written.
-use Prim.Native.Nat.{◌-◌}
 use Rattle.laws.specs.Rows.{rows}
 use Rattle.laws.specs.Sums.{only}
 use Rattle.listing_order.specs.Pushed.{Growing, is_task}
@@ -9,7 +8,4 @@ use mathlib.Core.Path.{◌≡◌}
 use Rattle.listing_order.proofs.push_named.Given as goal
 
 abbrev pub invariant-loop-i : goal.invariant-loop-i
-invariant-loop-i l = (length l.order ≡ length l.initial.order) × Growing l.ts l.count l.initial.order l.k (λ j. only (is_task l.v l.n) (rows j (task_row l.ts))) l.count l.order l.e l.i
-
-abbrev pub decreases-loop-i : goal.decreases-loop-i
-decreases-loop-i l = l.count - l.i
+invariant-loop-i l = (length l.order ≡ length l.initial.order) × Growing l.t.tasks.now l.count l.initial.order l.k (λ j. only (is_task l.v l.n) (rows j (task_row l.t.tasks.now))) l.count l.order l.e l.i

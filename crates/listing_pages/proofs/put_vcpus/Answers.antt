@@ -1,5 +1,4 @@
 -- `put_vcpus` meets its contract: the lines before this one are written.
-use Prim.Native.Nat.{◌-◌}
 use Rattle.listing_waits.specs.FilledLaws.{filled_none, filled_ends, filled_fits, filled_sum, filled_more, filled_all}
 use mathlib.Core.Path.{refl}
 use Rattle.plan_tables.specs.Layout.{vcpu_row}
@@ -10,7 +9,7 @@ use Rattle.listing_pages.proofs.put_vcpus.Goals as goal
 
 pub loop-a-init : goal.loop-a-init
 unfolding system_in
-loop-a-init c = filled_none (vcpu_line _) (vcpu_row _) _ (refl) c.requires.2
+loop-a-init c = filled_none (vcpu_line _) (vcpu_row _) _ (refl) c.requires.1
 
 pub slice_bounds-put_vcpu-count : goal.slice_bounds-put_vcpu-count
 unfolding system_in
@@ -22,7 +21,7 @@ slice_bounds-put_vcpu-start c = let h = filled_ends (vcpu_line _) (vcpu_row _) c
 
 pub put_vcpu-k-requires : goal.put_vcpu-k-requires
 unfolding system_in
-put_vcpu-k-requires c = let h = c.requires in (h.0, h.1, c.loop-a-test.true, filled_fits (vcpu_line _) (vcpu_row _) c.loop-a.invariant c.loop-a-test.true)
+put_vcpu-k-requires c = let h = c.requires in (h.0, c.loop-a-test.true, filled_fits (vcpu_line _) (vcpu_row _) c.loop-a.invariant c.loop-a-test.true)
 
 pub overflow_add-at : goal.overflow_add-at
 unfolding system_in

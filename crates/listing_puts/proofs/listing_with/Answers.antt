@@ -3,7 +3,7 @@ use borrow.Author.Rules.{rules}
 use Rattle.listing_puts.proofs.listing_with.Goals as goal
 
 pub put_answered-requires : goal.put_answered-requires
-put_answered-requires c = (c.requires.0, c.fill_answers.ensures, c.rising-n.ensures, search rules)
+put_answered-requires c = (c.fill_answers.ensures, c.rising-n.ensures, search rules)
 
 pub shape_of-tf : goal.shape_of-tf
 shape_of-tf c = c.fill_answers.auto.tf

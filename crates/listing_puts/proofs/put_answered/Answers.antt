@@ -1,6 +1,6 @@
 -- `put_answered` meets its contract.
+use Rattle.figures_cells.specs.Held.{system_of}
 use mathlib.Core.Path.{refl}
-use Rattle.figures.specs.Tabled.{system_in}
 use Rattle.listing.specs.Listing.{listing}
 use Rattle.listing_lines.specs.IntoLaws.{tested_room, tested_in, tested_out, answered_as}
 use Rattle.listing_puts.proofs.put_answered.Goals as goal
@@ -12,8 +12,8 @@ pub put_listing-k-requires : goal.put_listing-k-requires
 put_listing-k-requires c =
     let a = c.args in
     let h = c.requires in
-    let room = tested_room {t = listing (system_in a.r a.vt.now a.mt.now a.ts.now)} (record { is = c.has_room.ensures }) c.if-not-has_room.false in
-    (h.0, h.1, h.2, h.3, room)
+    let room = tested_room {t = listing (system_of a.t.now)} (record { is = c.has_room.ensures }) c.if-not-has_room.false in
+    (h.0, h.1, h.2, room)
 
 pub returns : goal.returns
 returns c = let h = answered_as c.written.ensures (tested_in (record { is = c.has_room.ensures }) refl c.if-not-has_room.false c.put_listing-k.ensures) in record { value = h.0; out_after = h.1 }

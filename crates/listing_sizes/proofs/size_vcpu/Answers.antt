@@ -4,4 +4,4 @@ use Rattle.listing_sizes.proofs.TextLaws.{vcpu_text_law}
 use Rattle.listing_sizes.proofs.size_vcpu.Goals as goal
 
 pub returns : goal.returns
-returns c = let h = c.requires in sized_as (vcpu_text_law h.1 _ h.2 c.vcpu_cell-v.ensures.is c.answer_at-x.ensures) c.vcpu_size.ensures
+returns c = let h = c.requires in sized_as (vcpu_text_law h.0 _ h.1 c.vcpu_cell-v.ensures.is c.answer_at-x.ensures) c.vcpu_size.ensures

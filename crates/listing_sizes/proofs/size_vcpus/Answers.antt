@@ -1,6 +1,5 @@
 -- `size_vcpus` meets its contract.
 use mathlib.Core.Path.{refl}
-use Prim.Native.Nat.{◌-◌}
 use Rattle.laws.specs.RowLaws.{summed_none}
 use Rattle.plan_tables.specs.Layout.{vcpu_row}
 use Rattle.figures.specs.Tabled.{system_in}
@@ -18,4 +17,4 @@ loop-a-preserved c = sized_more (vcpu_line _) (vcpu_row _) c.loop-a.invariant c.
 
 pub returns : goal.returns
 unfolding system_in
-returns c = sized_all (vcpu_line _) (vcpu_row _) c.loop-a.invariant 16 c.requires.0.vcpus_few c.loop-a-test.false refl
+returns c = sized_all (vcpu_line _) (vcpu_row _) c.loop-a.invariant 16 c.args.t.now.fit.vcpus_few c.loop-a-test.false refl

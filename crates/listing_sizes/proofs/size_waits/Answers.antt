@@ -1,5 +1,4 @@
 -- `size_waits` meets its contract.
-use Prim.Native.Nat.{◌-◌}
 use Rattle.laws.specs.RowLaws.{summed_none}
 use Rattle.listing_sizes.specs.Texts.{place_text}
 use Rattle.listing_sizes.proofs.TextLaws.{sized_more, sized_all, waits_text}
@@ -10,7 +9,7 @@ pub loop-j-init : goal.loop-j-init
 loop-j-init c = summed_none
 
 pub size_wait-x-requires : goal.size_wait-x-requires
-size_wait-x-requires c = let h = c.requires in (h.0, h.1, h.2, omega (arith, c.loop-j-test.true, c.lock_count-n.ensures.small), omega (arith, c.loop-j-test.true, c.lock_count-n.ensures.is))
+size_wait-x-requires c = let h = c.requires in (h.0, h.1, omega (arith, c.loop-j-test.true, c.lock_count-n.ensures.small), omega (arith, c.loop-j-test.true, c.lock_count-n.ensures.is))
 
 pub loop-j-preserved : goal.loop-j-preserved
 loop-j-preserved c = sized_more (place_text _ _ _) (λ k. k) c.loop-j.invariant c.loop-j-test.true c.size_wait-x.ensures

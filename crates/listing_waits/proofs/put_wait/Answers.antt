@@ -5,10 +5,10 @@ use Rattle.listing_waits.specs.FilledLaws.{wrote_none}
 use Rattle.listing_waits.proofs.put_wait.Goals as goal
 
 pub returns-then-not-is_wait : goal.returns-then-not-is_wait
-returns-then-not-is_wait c = let h = c.requires in wrote_none _ (place_none h.1 _ _ c.is_wait.ensures c.if-not-is_wait.true)
+returns-then-not-is_wait c = let h = c.requires in wrote_none _ (place_none h.0 _ _ c.is_wait.ensures c.if-not-is_wait.true)
 
 pub wait_line-requires : goal.wait_line-requires
-wait_line-requires c = let h = c.requires in fits_as (place_text_law h.1 _ _ c.is_wait.ensures h.2 h.4 c.if-not-is_wait.false c.task_cell-v.ensures.is c.task_cell-n.ensures.is c.answer_at-x.ensures) h.5
+wait_line-requires c = let h = c.requires in fits_as (place_text_law h.0 _ _ c.is_wait.ensures h.1 h.3 c.if-not-is_wait.false c.task_cell-v.ensures.is c.task_cell-n.ensures.is c.answer_at-x.ensures) h.4
 
 pub returns : goal.returns
-returns c = let h = c.requires in wrote_as (place_text_law h.1 _ _ c.is_wait.ensures h.2 h.4 c.if-not-is_wait.false c.task_cell-v.ensures.is c.task_cell-n.ensures.is c.answer_at-x.ensures) c.wait_line.ensures
+returns c = let h = c.requires in wrote_as (place_text_law h.0 _ _ c.is_wait.ensures h.1 h.3 c.if-not-is_wait.false c.task_cell-v.ensures.is c.task_cell-n.ensures.is c.answer_at-x.ensures) c.wait_line.ensures

@@ -11,6 +11,7 @@ use Rattle.plan.specs.declared.OverrunChoice.{OverrunChoice}
 use Rattle.plan.specs.declared.Policy.{Policy}
 use Rattle.board_rules.specs.declared.Board.{Board}
 use Rattle.board_rules.specs.View.{facts_in}
+use Rattle.board_rules.specs.PlanViews.{facts}
 use Rattle.board_events.specs.Events.{answer_fields, replies_to}
 use Rattle.log_replies.specs.Parts.{end_text}
 use Rattle.log_answers.specs.Stays.{line_stays, marked_by_law}
@@ -25,13 +26,13 @@ replies_at policy choice view src t at = replies_to (facts_in policy choice view
 -- the last piece
 
 last : (c : Then-k-rest) →
-    replies_at c.args.policy c.args.choice c.args.view.now c.args.src.now c.loop-rest.t c.loop-rest.at
+    replies_at c.args.plan.now.policy c.args.plan.now.overrun c.args.plan.now.view.now c.args.src.now c.loop-rest.t c.loop-rest.at
     ≡ end_text c.cut-k.result ++ []
 last c =
     let l = c.loop-rest in
     let a = c.args in
     let k = c.cut-k in
-    replies_last a.src.now l.at k.result _ (take_rest l.at a.src.now) k.ensures (facts_in a.policy a.choice a.view.now) l.t l.invariant.0 c.if-k-rest.true
+    replies_last a.src.now l.at k.result _ (take_rest l.at a.src.now) k.ensures (facts a.plan.now) l.t l.invariant.0 c.if-k-rest.true
 
 fits : (c : Else-k-rest) → c.loop-rest.at + c.cut-k.result + 1 ≤ length c.args.src.now
 fits c =
@@ -43,15 +44,15 @@ fits c =
 -- a line, and u the board after it
 
 next : (c : After-on_line-o) (u : Board) → c.on_line-o.result.board ≡ u →
-    replies_at c.args.policy c.args.choice c.args.view.now c.args.src.now c.loop-rest.t c.loop-rest.at
+    replies_at c.args.plan.now.policy c.args.plan.now.overrun c.args.plan.now.view.now c.args.src.now c.loop-rest.t c.loop-rest.at
     ≡ line (answer_fields c.on_line-o.result.answer)
-    ++ replies_at c.args.policy c.args.choice c.args.view.now c.args.src.now u (c.loop-rest.at + c.cut-k.result + 1)
+    ++ replies_at c.args.plan.now.policy c.args.plan.now.overrun c.args.plan.now.view.now c.args.src.now u (c.loop-rest.at + c.cut-k.result + 1)
 next c u e =
     let l = c.loop-rest in
     let a = c.args in
     let k = c.cut-k in
     let o = c.on_line-o in
-    replies_next a.src.now l.at k.result _ (take_rest l.at a.src.now) k.ensures (facts_in a.policy a.choice a.view.now) l.t c.if-k-rest.false o.result o.ensures u e
+    replies_next a.src.now l.at k.result _ (take_rest l.at a.src.now) k.ensures (facts a.plan.now) l.t c.if-k-rest.false o.result o.ensures u e
 
 pub loop-rest-init : goal.loop-rest-init
 loop-rest-init c = (omega arith, run_none _ _ _, c.requires.2)
@@ -95,7 +96,7 @@ loop-rest-smaller-then-moves c = omega (arith, fits (goal.at.loop-rest-smaller-t
 pub loop-rest-preserved-then-moves : goal.loop-rest-preserved-then-moves
 loop-rest-preserved-then-moves c =
     let l = c.loop-rest in
-    let F = facts_in c.args.policy c.args.choice c.args.view.now in (
+    let F = facts c.args.plan.now in (
       fits (goal.at.loop-rest-preserved-then-moves c).Else-k-rest,
       run_more c.requires.1 l.invariant.1 _ _ (next (goal.at.loop-rest-preserved-then-moves c).After-on_line-o _ refl) c.cut-k.result c.tell-m.ensures,
       marked_by_law F l.t l.invariant.2 _ c.on_line-o.result c.on_line-o.ensures,
@@ -109,5 +110,5 @@ loop-rest-smaller c = omega (arith, fits (goal.at.loop-rest-smaller c).Else-k-re
 pub loop-rest-preserved : goal.loop-rest-preserved
 loop-rest-preserved c =
     let l = c.loop-rest in
-    let e = line_stays (facts_in c.args.policy c.args.choice c.args.view.now) l.t _ c.on_line-o.result c.on_line-o.ensures c.moves.ensures c.if-moves.false in
+    let e = line_stays (facts c.args.plan.now) l.t _ c.on_line-o.result c.on_line-o.ensures c.moves.ensures c.if-moves.false in
     (fits (goal.at.loop-rest-preserved c).Else-k-rest, run_more c.requires.1 l.invariant.1 _ _ (next (goal.at.loop-rest-preserved c).After-on_line-o l.t e) c.cut-k.result c.tell-m.ensures, l.invariant.2)

@@ -1,12 +1,11 @@
 -- `answers_into` meets its contract.
-use borrow.Author.Rules.{rules}
 use Rattle.figures_slices.specs.FitLaws.{given_fit}
 use Rattle.board_rules.proofs.Marked.{view_marked}
 use Rattle.log_text.specs.Viewed.{view_short, view_text}
 use Rattle.log_text.proofs.answers_into.Goals as goal
 
-pub fill_view-requires : goal.fill_view-requires
-fill_view-requires c = (given_fit _ _ c.requires.0, search rules)
+pub invariant_of-t : goal.invariant_of-t
+invariant_of-t c = record { fit = given_fit _ _ c.requires.0 }
 
 pub answers_from-requires : goal.answers_from-requires
 answers_from-requires c =

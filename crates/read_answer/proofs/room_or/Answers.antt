@@ -1,6 +1,6 @@
 -- `read_answer::room_or` meets its contract.
+use Rattle.std.specs.Prelude.{Err}
 use mathlib.Core.Path.{ap}
-use Rattle.read_answer.specs.Into.{Refused}
 use Rattle.read_answer.specs.Judged.{room_or}
 use Rattle.read_answer.proofs.room_or.Goals as goal
 
@@ -10,4 +10,4 @@ returns-then-ok c = simp c.if-ok.true
 
 pub returns-else-ok : goal.returns-else-ok
 unfolding room_or
-returns-else-ok c = simp c.if-ok.false (ap Refused c.no_room.ensures)
+returns-else-ok c = simp c.if-ok.false (ap Err c.no_room.ensures)

@@ -1,8 +1,9 @@
 -- `read_lines::read_lines` meets its contract.
-use Prim.Native.Nat.{◌-◌}
-use mathlib.Core.Path.{refl, sym, ◌∙◌}
+use Rattle.std.specs.Prelude.{◌≡◌, true, is_ok, Err}
+use mathlib.Core.Path.{refl, sym, ap, ◌∙◌}
 use native.Mathlib.Omega.{arith}
 use borrow.Author.Tests.{not-true, not-false}
+use Rattle.plan.specs.Refusals.{Fault}
 use Rattle.read_fill.specs.Fill.{vcpu_put, mutex_put, open_put, task_put}
 use Rattle.read_answer.specs.LoopLaws.{read_fits, read_few, read_end, read_bad, read_next, left_end, left_bad, left_next}
 use Rattle.read_lines.proofs.read_lines.Goals as goal
@@ -25,17 +26,16 @@ returns-then-not-l c =
     let y = c.ready in
     let z = c.finish in record { value = read_end s l.at l.n x.result x.ensures l.t l.c y.result z.result h y.ensures z.ensures ∙ sym l.invariant.6; vt_after = left_end s l.at l.n x.result x.ensures l.t l.c vcpu_put l.vt h ∙ sym l.invariant.7; mt_after = left_end s l.at l.n x.result x.ensures l.t l.c mutex_put l.mt h ∙ sym l.invariant.8; ot_after = left_end s l.at l.n x.result x.ensures l.t l.c open_put l.ot h ∙ sym l.invariant.9; kt_after = left_end s l.at l.n x.result x.ensures l.t l.c task_put l.kt h ∙ sym l.invariant.10 }
 
-pub returns-then-not-is_clear : goal.returns-then-not-is_clear
-returns-then-not-is_clear c =
+pub returns-in-Err : goal.returns-in-Err
+returns-in-Err c =
     let s = c.args.src.now in
     let l = c.loop-r in
     let x = c.read_line-r in
     let h = not-false x.result.line.ended c.if-not-l.false in
-    let f = c.fault_in-f in
-    let y = c.is_clear in
-    let q = sym y.ensures ∙ c.if-not-is_clear.true in
-    let k = c.field_in in
-    let z = c.refused in record { value = read_bad s l.at l.n x.result x.ensures l.t l.c f.result h f.ensures k.result z.result q k.ensures z.ensures ∙ sym l.invariant.6; vt_after = left_bad s l.at l.n x.result x.ensures l.t l.c vcpu_put l.vt f.result h f.ensures q ∙ sym l.invariant.7; mt_after = left_bad s l.at l.n x.result x.ensures l.t l.c mutex_put l.mt f.result h f.ensures q ∙ sym l.invariant.8; ot_after = left_bad s l.at l.n x.result x.ensures l.t l.c open_put l.ot f.result h f.ensures q ∙ sym l.invariant.9; kt_after = left_bad s l.at l.n x.result x.ensures l.t l.c task_put l.kt f.result h f.ensures q ∙ sym l.invariant.10 }
+    let r : Fault = Err c.in-Err.r in
+    let f = c.in-Err.ensures in
+    let k = c.field_said in
+    let z = c.refuse in record { value = read_bad s l.at l.n x.result x.ensures l.t l.c r h f k.result z.result refl k.ensures z.ensures ∙ sym l.invariant.6; vt_after = left_bad s l.at l.n x.result x.ensures l.t l.c vcpu_put l.vt r h f refl ∙ sym l.invariant.7; mt_after = left_bad s l.at l.n x.result x.ensures l.t l.c mutex_put l.mt r h f refl ∙ sym l.invariant.8; ot_after = left_bad s l.at l.n x.result x.ensures l.t l.c open_put l.ot r h f refl ∙ sym l.invariant.9; kt_after = left_bad s l.at l.n x.result x.ensures l.t l.c task_put l.kt r h f refl ∙ sym l.invariant.10 }
 
 pub loop-r-smaller : goal.loop-r-smaller
 loop-r-smaller c =
@@ -50,9 +50,8 @@ loop-r-preserved c =
     let l = c.loop-r in
     let x = c.read_line-r in
     let h = not-false x.result.line.ended c.if-not-l.false in
-    let f = c.fault_in-f in
-    let y = c.is_clear in
-    let q = sym y.ensures ∙ c.if-not-is_clear.false in
+    let f = c.fault_in in
+    let q : is_ok f.result ≡ true = ap is_ok c.in_default.is in
     let p = c.put_line.ensures in
     let u = c.seen_in-u in
     let v = c.tally_after-v in (

@@ -1,6 +1,6 @@
 -- `records_saved::all_kept` meets its contract.
 use Prim.Native.Nat.{ℕ, ◌-◌, ◌*◌}
-use mathlib.Core.Path.{◌≡◌, refl, ap, ◌∙◌}
+use mathlib.Core.Path.{◌≡◌, ap, ◌∙◌}
 use mathlib.Core.List.{List, ◌++◌}
 use native.Mathlib.Omega.{arith}
 use lib.ListN.{length, take, drop, take-append-drop, length-drop}
@@ -10,21 +10,15 @@ use Rattle.records_saved.proofs.all_kept.Goals as goal
 part_back : (k : ℕ) (b c : List ℕ) → c ≡ take (length b - k) (drop k b) → take k b ++ (c ++ drop (length b - k) (drop k b)) ≡ b
 part_back k b c e = ap (λ c. take k b ++ (c ++ drop (length b - k) (drop k b))) e ∙ ap (λ d. take k b ++ d) (take-append-drop (length b - k) (drop k b)) ∙ take-append-drop k b
 
-pub loop-i-init : goal.loop-i-init
-loop-i-init c = (omega arith, refl, refl)
-
 pub kept-requires : goal.kept-requires
 kept-requires c =
     let l = c.loop-i in
     let h = c.requires in
     let t = c.loop-i-test.true in
-    (omega (arith, c.few_of.ensures), omega (arith, c.few_of.ensures, l.invariant.1, h.0, h.1, t, length-drop (l.i * task_width) l.rows))
+    (omega (arith, c.few_of.ensures), omega (arith, c.few_of.ensures, h.0, h.1, t, l.auto.rows, length-drop (l.i * task_width) l.rows))
 
 pub loop-i-preserved : goal.loop-i-preserved
-loop-i-preserved c =
-    let l = c.loop-i in
-    let e = part_back (l.i * task_width) l.rows _ c.kept.ensures ∙ l.invariant.2 in
-    (omega (arith, c.loop-i-test.true), ap length e, e)
+loop-i-preserved c = let l = c.loop-i in part_back (l.i * task_width) l.rows _ c.kept.ensures ∙ l.invariant
 
-pub returns : goal.returns
-returns c = c.loop-i.invariant.2
+pub returns-2 : goal.returns-2
+returns-2 c = let l = c.loop-i in part_back (l.i * task_width) l.rows _ c.kept.ensures ∙ l.invariant

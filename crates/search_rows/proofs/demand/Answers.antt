@@ -1,5 +1,4 @@
 -- `search_rows::demand` meets its contract: the total is the capped sum of the rows so far.
-use Prim.Native.Nat.{◌-◌}
 use native.Mathlib.Omega.{arith}
 use Rattle.laws.specs.RowLaws.{each_row, capped_none, capped_all}
 use Rattle.search.specs.Row.{Sound, rows_demand}

@@ -1,17 +1,19 @@
 -- `text_lines::tally` meets its contract.
-use Rattle.laws.specs.Steps.{tallied_none, tallied_more, tallied_skip, tallied_end}
+use Rattle.std.proofs.Common.{ℕ, ◌≡◌, List, Bool, true, false, cond, eqb, refl, sym, ◌∙◌, arith, rules, suc, ◌+◌, count_by}
+use Rattle.std.proofs.lemmas.List.Recursion.{is_count_by}
+use Rattle.laws.specs.Fields.{count}
 use Rattle.text_lines.proofs.tally.Goals as goal
-use Rattle.text_lines.proofs.tally.Goals.{then-s-i, else-s-i}
 
-pub loop-i-init : goal.loop-i-init
-loop-i-init c = tallied_none
-
-pub loop-i-preserved : goal.loop-i-preserved
-loop-i-preserved c =
-    elim c.if-s-i.branch [
-      | then-s-i w ↦ tallied_more c.loop-i.invariant c.loop-i-test.true w.if-s-i.true w.n-is
-      | else-s-i w ↦ tallied_skip c.loop-i.invariant c.loop-i-test.true w.if-s-i.false w.n-is
-    ]
+-- counted as std counts
+count_is : (b : ℕ) (s : List ℕ) → count b s ≡ count_by (λ x. eqb x b) s
+unfolding count
+count_is b s = is_count_by (count b) (λ x. eqb x b) refl (λ x l. step (eqb x b) (count b l)) s
+  where
+    step : (t : Bool) (n : ℕ) → cond t (suc n) n ≡ cond t (1 + n) n
+    step true n = omega arith
+    step false n = refl
 
 pub returns : goal.returns
-returns c = tallied_end c.loop-i.invariant c.loop-i-test.false
+returns c =
+    let e : c.count.result ≡ count_by (λ x. eqb x c.args.b) c.args.s.now = search rules in
+    e ∙ sym (count_is _ _)

@@ -1,5 +1,4 @@
 -- `is_held` meets its contract: no task before this one holds task i up.
-use Prim.Native.Nat.{◌-◌}
 use Rattle.figures.specs.Answers.{is_held}
 use Rattle.figures.specs.Tabled.{system_in}
 use Rattle.laws.specs.RowLaws.{lacking_all, lacking_more, lacking_none, lacking_out}

@@ -9,19 +9,19 @@ use Rattle.times_tasks.proofs.task_rows.Goals as goal
 
 pub vcpu_of-a-requires : goal.vcpu_of-a-requires
 unfolding system_in task_row vcpu_row
-vcpu_of-a-requires c = let h = c.requires in (h.0, rw c.task_cell.ensures.is (h.0.task_vcpu _ h.3))
+vcpu_of-a-requires c = let h = c.requires in (rw c.task_cell.ensures.is (c.args.t.now.fit.task_vcpu _ h.2))
 
 pub overflow_sub-gap : goal.overflow_sub-gap
 unfolding system_in task_row vcpu_row
-overflow_sub-gap c = let v = c.requires.0.vcpu_valid _ c.vcpu_of-a.ensures.0 in omega (arith, v.budget_in.1, c.vcpu_cell-period.ensures.is, c.vcpu_cell-budget.ensures.is)
+overflow_sub-gap c = let v = c.args.t.now.fit.vcpu_valid _ c.vcpu_of-a.ensures.0 in omega (arith, v.budget_in.1, c.vcpu_cell-period.ensures.is, c.vcpu_cell-budget.ensures.is)
 
 pub higher_rows-n-requires : goal.higher_rows-n-requires
 unfolding system_in task_row vcpu_row
-higher_rows-n-requires c = let h = c.requires in (h.0, h.1, h.2, omega (arith, c.vcpu_cell-period.ensures.small), h.3, h.4)
+higher_rows-n-requires c = let h = c.requires in (h.0, h.1, omega (arith, c.vcpu_cell-period.ensures.small), h.2, h.3)
 
 pub push_row-requires : goal.push_row-requires
 unfolding system_in task_row vcpu_row
-push_row-requires c = omega (arith, c.higher_rows-n.ensures.0, c.higher_rows-n.auto.rows, c.requires.4)
+push_row-requires c = omega (arith, c.higher_rows-n.ensures.0, c.higher_rows-n.auto.rows, c.requires.3)
 
 pub overflow_add-result : goal.overflow_add-result
 unfolding system_in task_row vcpu_row
@@ -38,8 +38,8 @@ returns c = let h = c.requires in
     let v = c.vcpu_of-a.ensures in
     let e = ap (vcpu_at _) (sym c.task_cell.ensures.is) ∙ v.1 in
     let q = task_rows_are _ _ _ _ _ e c.vcpu_cell-budget.ensures.is c.vcpu_cell-period.ensures.is w.ensures.1
-    (omega (arith, w.ensures.0, w.auto.rows, h.4)) c.push_row.ensures in (
+    (omega (arith, w.ensures.0, w.auto.rows, h.3)) c.push_row.ensures in (
       omega (arith, w.ensures.0),
       q,
-      task_sound _ _ h.0 h.2 v.0 e q,
+      task_sound _ _ c.args.t.now.fit h.1 v.0 e q,
     )

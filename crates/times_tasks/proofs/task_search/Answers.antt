@@ -9,9 +9,9 @@ pub least-requires : goal.least-requires
 unfolding task_row
 least-requires c = let h = c.requires in
     let w = c.task_rows-n in (
-      omega (arith, w.ensures.0, w.auto.rows, h.5),
+      omega (arith, w.ensures.0, w.auto.rows, h.4),
       omega (arith, c.task_cell-limit.ensures.small),
-      task_start _ _ c.task_base-base.ensures (h.1.spans.at _ h.4).is,
+      task_start _ _ c.task_base-base.ensures (h.0.spans.at _ h.3).is,
       w.ensures.2,
     )
 
@@ -19,4 +19,4 @@ pub returns : goal.returns
 unfolding task_row
 returns c = let h = c.requires in
     c.least.ensures
-    ∙ task_found _ _ c.task_base-base.ensures (h.1.spans.at _ h.4).is c.task_cell-limit.ensures.is c.task_rows-n.ensures.1
+    ∙ task_found _ _ c.task_base-base.ensures (h.0.spans.at _ h.3).is c.task_cell-limit.ensures.is c.task_rows-n.ensures.1

@@ -13,7 +13,7 @@ use Rattle.times_vcpus.proofs.blocking_cost.Goals.{After-shared_slice_known-then
 product : (c : After-shared_slice_known-then-d-1) → c.lower_times.result * get_or c.args.tf.now (c.args.k * 5 + 1) 0 ≤ 16 * 8000000
 product c =
     let h = c.requires in
-    mul-le-mul c.lower_times.ensures.small (h.1.sums.at _ h.3).small
+    mul-le-mul c.lower_times.ensures.small (h.0.sums.at _ h.2).small
 
 pub overflow_mul-result-then-d : goal.overflow_mul-result-then-d
 unfolding blocking_cost task_row
@@ -23,7 +23,7 @@ pub returns-then-d : goal.returns-then-d
 unfolding blocking_cost task_row
 returns-then-d c = let h = c.requires in
     let t = is_then c.lower_times.ensures (ap (lower_times _ _) c.task_cell.ensures.is) in
-    is_in refl c.if-d.true (is_times t (h.1.sums.at _ h.3))
+    is_in refl c.if-d.true (is_times t (h.0.sums.at _ h.2))
 
 pub returns-else-d : goal.returns-else-d
 unfolding blocking_cost task_row

@@ -7,7 +7,7 @@ use Rattle.times_vcpus.proofs.blocking_ght.Goals as goal
 
 pub returns-then-d-lower : goal.returns-then-d-lower
 unfolding blocking_ght
-returns-then-d-lower c = let h = c.requires in is_in (ap (λ x. not c.args.d && x) c.is_lower_on-lower.ensures) c.if-d-lower.true (h.1.ghts.at _ h.3)
+returns-then-d-lower c = let h = c.requires in is_in (ap (λ x. not c.args.d && x) c.is_lower_on-lower.ensures) c.if-d-lower.true (h.0.ghts.at _ h.2)
 
 pub returns-else-d-lower : goal.returns-else-d-lower
 unfolding blocking_ght

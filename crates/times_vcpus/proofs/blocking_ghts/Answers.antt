@@ -1,5 +1,4 @@
 -- `blocking_ghts` meets its contract.
-use Prim.Native.Nat.{◌-◌}
 use Rattle.laws.specs.RowLaws.{summed_all, summed_more, summed_none}
 use borrow.Author.Rules.{rules}
 use Rattle.times_vcpus.proofs.blocking_ghts.Goals as goal

@@ -1,5 +1,4 @@
 -- `lower_times` meets its contract.
-use Prim.Native.Nat.{◌-◌}
 use Rattle.figures.specs.Tabled.{system_in}
 use Rattle.laws.specs.RowLaws.{summed_all, summed_more, summed_none}
 use Rattle.figures_slices.specs.Costs.{lower_times}

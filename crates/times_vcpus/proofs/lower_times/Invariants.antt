@@ -1,5 +1,4 @@
 -- `lower_times` meets its contract.
-use Prim.Native.Nat.{◌-◌}
 use Rattle.figures.specs.Figures.{lower_on}
 use Rattle.laws.specs.Choice.{when}
 use Rattle.laws.specs.Rows.{Summed}
@@ -9,7 +8,4 @@ use mathlib.Core.Bool.{◌&&◌}
 use Rattle.times_vcpus.proofs.lower_times.Given as goal
 
 abbrev pub invariant-loop-b : goal.invariant-loop-b
-invariant-loop-b l = Summed (λ y. when (lower_on (vcpu_row l.vt l.a) y && eqb l.v y.v) 1) (vcpu_row l.vt) 1 l.n l.s l.b
-
-abbrev pub decreases-loop-b : goal.decreases-loop-b
-decreases-loop-b l = l.n - l.b
+invariant-loop-b l = Summed (λ y. when (lower_on (vcpu_row l.t.vcpus.now l.a) y && eqb l.v y.v) 1) (vcpu_row l.t.vcpus.now) 1 l.n l.s l.b

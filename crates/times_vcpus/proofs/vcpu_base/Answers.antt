@@ -8,12 +8,12 @@ use Rattle.times_vcpus.proofs.vcpu_base.Goals as goal
 
 pub overflow_add-result-2 : goal.overflow_add-result-2
 unfolding vcpu_base system_in
-overflow_add-result-2 c = let h = c.requires in omega (arith, (h.2.starts.at _ h.3).small, c.blocking_ghts-ghts.ensures.small)
+overflow_add-result-2 c = let h = c.requires in omega (arith, (h.1.starts.at _ h.2).small, c.blocking_ghts-ghts.ensures.small)
 
 pub overflow_add-result-3 : goal.overflow_add-result-3
 unfolding vcpu_base system_in
-overflow_add-result-3 c = let h = c.requires in omega (arith, (h.2.starts.at _ h.3).small, c.blocking_ghts-ghts.ensures.small, c.blocking_costs-costs.ensures.small)
+overflow_add-result-3 c = let h = c.requires in omega (arith, (h.1.starts.at _ h.2).small, c.blocking_ghts-ghts.ensures.small, c.blocking_costs-costs.ensures.small)
 
 pub returns : goal.returns
 unfolding vcpu_base system_in
-returns c = let h = c.requires in ap₂ ◌+◌ (ap₂ ◌+◌ (h.2.starts.at _ h.3).is c.blocking_ghts-ghts.ensures.is) c.blocking_costs-costs.ensures.is
+returns c = let h = c.requires in ap₂ ◌+◌ (ap₂ ◌+◌ (h.1.starts.at _ h.2).is c.blocking_ghts-ghts.ensures.is) c.blocking_costs-costs.ensures.is

@@ -1,5 +1,4 @@
 -- `most_on` meets its contract.
-use Prim.Native.Nat.{◌-◌}
 use Rattle.laws.specs.RowLaws.{greatest_all, greatest_more, greatest_none}
 use Rattle.laws.specs.Sums.{greatest}
 use Rattle.figures_slices.specs.CostLaws.{over_locks}
@@ -10,7 +9,7 @@ pub loop-j-init : goal.loop-j-init
 loop-j-init c = greatest_none
 
 pub section_on-x-requires : goal.section_on-x-requires
-section_on-x-requires c = let h = c.requires in (h.0, h.1, h.2, h.3, omega (arith, c.loop-j-test.true, c.lock_count-n.ensures.small), omega (arith, c.loop-j-test.true, c.lock_count-n.ensures.is), h.4)
+section_on-x-requires c = let h = c.requires in (h.0, h.1, h.2, omega (arith, c.loop-j-test.true, c.lock_count-n.ensures.small), omega (arith, c.loop-j-test.true, c.lock_count-n.ensures.is), h.3)
 
 pub loop-j-preserved : goal.loop-j-preserved
 loop-j-preserved c = greatest_more c.loop-j.invariant c.loop-j-test.true c.section_on-x.ensures c.larger-s.ensures

@@ -12,7 +12,7 @@ pub returns-then-lock_cell-m : goal.returns-then-lock_cell-m
 unfolding lock_row
 returns-then-lock_cell-m c = let h = c.requires in
     let e = c.lock_cell.ensures.is in
-    is_in (ap₂ eqb e refl) (eq-eqb _ _ c.if-lock_cell-m.true) (section_is _ _ _ _ (response_at _ _ _ _ h.1 h.3 h.4) h.5 h.6 (sym e ∙ c.if-lock_cell-m.true))
+    is_in (ap₂ eqb e refl) (eq-eqb _ _ c.if-lock_cell-m.true) (section_is _ _ _ _ (response_at _ _ _ _ h.0 h.2 h.3) h.4 h.5 (sym e ∙ c.if-lock_cell-m.true))
 
 pub returns-else-lock_cell-m : goal.returns-else-lock_cell-m
 unfolding lock_row

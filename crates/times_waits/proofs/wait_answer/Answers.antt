@@ -15,10 +15,10 @@ pub least-requires : goal.least-requires
 unfolding system_in
 least-requires c = let h = c.requires in
     let w = c.wait_rows-n in (
-      omega (arith, w.ensures.0, w.auto.rows, h.4),
-      omega (arith, h.5),
+      omega (arith, w.ensures.0, w.auto.rows, h.3),
+      omega (arith, h.4),
       omega arith,
-      wait_sound (wait_cost _ _ _) h.0 w.ensures.1,
+      wait_sound (wait_cost _ _ _) c.args.t.now.fit w.ensures.1,
     )
 
 pub returns : goal.returns

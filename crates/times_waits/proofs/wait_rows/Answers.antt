@@ -1,5 +1,4 @@
 -- `wait_rows` meets its contract: the rows of the tasks before this one are written.
-use Prim.Native.Nat.{◌-◌}
 use mathlib.Core.Path.{refl, ◌∙◌}
 use native.Mathlib.Omega.{arith}
 use Rattle.laws.specs.Rows.{rows}
@@ -12,13 +11,13 @@ pub loop-k-init : goal.loop-k-init
 loop-k-init c = (refl, picked_none (unfold rows in refl) (omega arith))
 
 pub add_cost-n-requires : goal.add_cost-n-requires
-add_cost-n-requires c = let i = c.loop-k.invariant in let h = c.requires in cost_room _ _ _ i.1 i.0 h.4 h.0.tasks_few c.loop-k-test.true
+add_cost-n-requires c = let i = c.loop-k.invariant in let h = c.requires in cost_room _ _ _ i.1 i.0 h.3 c.args.t.now.fit.tasks_few c.loop-k-test.true
 
 pub loop-k-preserved : goal.loop-k-preserved
 unfolding task_row
 loop-k-preserved c =
     let i = c.loop-k.invariant in let h = c.requires in let l = c.loop-k-test.true in
-    (c.rows-1.given ∙ i.0, cost_added _ _ i.1 l c.add_cost-n.ensures c.task_cell.ensures.is c.wait_cost-cost.ensures.is (cost_room _ _ _ i.1 i.0 h.4 h.0.tasks_few l))
+    (c.rows-1.given ∙ i.0, cost_added _ _ i.1 l c.add_cost-n.ensures c.task_cell.ensures.is c.wait_cost-cost.ensures.is (cost_room _ _ _ i.1 i.0 h.3 c.args.t.now.fit.tasks_few l))
 
 pub returns : goal.returns
-returns c = let i = c.loop-k.invariant in (omega (arith, i.1.built.few, i.1.built.within, c.requires.0.tasks_few), picked_all i.1 c.loop-k-test.false)
+returns c = let i = c.loop-k.invariant in (omega (arith, i.1.built.few, i.1.built.within, c.args.t.now.fit.tasks_few), picked_all i.1 c.loop-k-test.false)

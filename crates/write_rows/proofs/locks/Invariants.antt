@@ -1,11 +1,7 @@
 -- `write_rows::locks` meets its contract.
-use Prim.Native.Nat.{◌-◌}
 use Rattle.given_test.specs.Feed.{lock_lines}
 use Rattle.write_rows.specs.Rows.{ToldRows}
 use Rattle.write_rows.proofs.locks.Given as goal
 
 abbrev pub invariant-loop-j : goal.invariant-loop-j
 invariant-loop-j l = ToldRows l.on (lock_lines l.t l.i) l.c l.initial.out l.out l.n l.k l.j
-
-abbrev pub decreases-loop-j : goal.decreases-loop-j
-decreases-loop-j l = l.c - l.j

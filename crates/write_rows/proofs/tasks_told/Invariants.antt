@@ -1,5 +1,4 @@
 -- `write_rows::tasks_told` meets its contract.
-use Prim.Native.Nat.{◌-◌}
 use mathlib.Core.Path.{◌≡◌}
 use Rattle.laws.specs.Rows.{rows}
 use Rattle.plan_tables.specs.Layout.{vcpu_row}
@@ -10,6 +9,3 @@ use Rattle.write_rows.proofs.tasks_told.Given as goal
 
 abbrev pub invariant-loop-i : goal.invariant-loop-i
 invariant-loop-i l = ToldRows l.on (task_lines (rows l.c (vcpu_row l.vt)) l.t) l.m l.initial.out l.out l.n l.k l.i × (l.last ≡ last_at (rows l.c (vcpu_row l.vt)) l.t l.i)
-
-abbrev pub decreases-loop-i : goal.decreases-loop-i
-decreases-loop-i l = l.m - l.i

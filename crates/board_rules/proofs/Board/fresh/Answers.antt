@@ -5,4 +5,4 @@ use Rattle.board_rules.proofs.Board.fresh.Goals as goal
 
 pub returns : goal.returns
 unfolding fresh facts_in list_to
-returns c = λ p o. rw (c.overruns-over.ensures, c.budgets-left.ensures)
+returns c = λ p o. rw (c.overruns.ensures, c.budgets.ensures)

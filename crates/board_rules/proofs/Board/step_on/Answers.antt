@@ -27,4 +27,4 @@ returns-in-Top c = rw c.in-Top.is c.top_on.ensures
 
 pub returns-in-Show : goal.returns-in-Show
 returns-in-Show c = let a = c.args in
-    rw (c.in-Show.is, c.shown.ensures, c.show_on.ensures) (show_board a.policy a.choice a.view.now a.self _ _)
+    rw (c.in-Show.is, c.shown.ensures, c.show_on.ensures) (show_board a.plan.now.policy a.plan.now.overrun a.plan.now.view.now a.self _ _)

@@ -1,10 +1,10 @@
-use Rattle.board_rules.specs.View.{facts_in}
+use Rattle.board_rules.specs.PlanViews.{facts}
 use Rattle.board_rules.proofs.LentLaws.{marked_lent}
 use borrow.Author.Rules.{rules}
 use Rattle.board_rules.proofs.Board.use_on.Goals as goal
 
 pub use_in-answer-requires : goal.use_in-answer-requires
-use_in-answer-requires c = let a = c.args in (search rules, search rules, search rules, λ ws. marked_lent (facts_in a.policy a.choice a.view.now) a.self c.requires a.self.over ws)
+use_in-answer-requires c = let a = c.args in (search rules, search rules, search rules, λ ws. marked_lent (facts a.plan.now) a.self c.requires a.self.over ws)
 
 pub returns : goal.returns
 returns c = c.use_in-answer.ensures c.args.self.waits

@@ -1,0 +1,11 @@
+-- `is_local` meets its contract: no row before this one passes.
+use Prim.Native.Nat.{◌-◌}
+use Rattle.laws.specs.Rows.{Lacking}
+use Rattle.plan.specs.Lookup.{is_local_to}
+use Rattle.plan_tables.specs.Layout.{mutex_row}
+use lib.Dec.{eqb}
+use mathlib.Core.Bool.{◌&&◌}
+use Rattle.figures_cells.proofs.PlanTables.is_local.Given as goal
+
+abbrev pub invariant-loop-a : goal.invariant-loop-a
+invariant-loop-a l = Lacking (λ x. eqb x.m l.m && is_local_to l.v x.owner) (mutex_row l.self.mutexes.now) l.n l.a

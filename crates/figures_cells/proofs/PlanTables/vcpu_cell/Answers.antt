@@ -1,0 +1,7 @@
+-- `vcpu_cell` meets its contract.
+use borrow.Author.Rules.{rules}
+use native.Mathlib.Omega.{arith}
+use Rattle.figures_cells.proofs.PlanTables.vcpu_cell.Goals as goal
+
+pub returns : goal.returns
+returns c = let h = c.requires in record { is = search rules; small = c.args.self.now.fit.vcpu_small _ (omega arith) }

@@ -1,7 +1,0 @@
--- `lock_cell` meets its contract.
-use borrow.Author.Rules.{rules}
-use native.Mathlib.Omega.{arith}
-use Rattle.figures_cells.proofs.lock_cell.Goals as goal
-
-pub returns : goal.returns
-returns c = let h = c.requires in record { is = search rules; small = h.0.task_small _ (omega arith) }

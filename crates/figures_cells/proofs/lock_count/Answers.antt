@@ -1,6 +1,0 @@
--- `lock_count` meets its contract.
-use borrow.Author.Rules.{rules}
-use Rattle.figures_cells.proofs.lock_count.Goals as goal
-
-pub returns : goal.returns
-returns c = let h = c.requires in record { is = search rules; small = h.0.task_locks _ h.1 }
