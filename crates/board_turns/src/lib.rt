@@ -30,8 +30,8 @@ pub fn awaited(waits: &[u8], w: u8) -> bool
     ensures { result ≡ awaited_at waits.now w }
 {
     let mut k: u8 = 0;
-    for x in waits {
-        k += one(*x == w);
+    for i in 0..128 {
+        k += one(waits[i] == w);
     }
     0 < k
 }

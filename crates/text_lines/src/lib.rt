@@ -51,7 +51,13 @@ fn tail(s: &[u8], b: u8) -> &[u8]
 fn tally(s: &[u8], b: u8) -> usize
     ensures { result ≡ count b s.now }
 {
-    s.iter().filter(|x| **x == b).count()
+    let mut n = 0;
+    for x in s {
+        if *x == b {
+            n += 1;
+        }
+    }
+    n
 }
 
 // What a line says: its kind, and its numbers from left to right, 0 where there are fewer.

@@ -7,18 +7,18 @@ use lib.ListN.{get_or}
 use Rattle.board_turns.specs.TurnLaws.{counted_none, counted_more, counted_all}
 use Rattle.board_turns.proofs.awaited.Goals as goal
 
-pub loop-x-init : goal.loop-x-init
-loop-x-init c = counted_none
+pub loop-i-init : goal.loop-i-init
+loop-i-init c = counted_none
 
 pub overflow_add-k : goal.overflow_add-k
-overflow_add-k c = let h = c.loop-x.invariant in omega (arith, h.few, h.within, c.loop-x-test.true, c.one-k.ensures.1)
+overflow_add-k c = let h = c.loop-i.invariant in omega (arith, h.few, h.within, c.loop-i-test.true, c.one-k.ensures.1)
 
-pub loop-x-preserved : goal.loop-x-preserved
-loop-x-preserved c =
-    let i = c.loop-x.x-index in
+pub loop-i-preserved : goal.loop-i-preserved
+loop-i-preserved c =
+    let i = c.loop-i.i in
     let a = c.args in
     let e : i ≡ i + 1 - 1 = omega arith in
-    counted_more c.loop-x.invariant (omega (arith, c.loop-x-test.true)) c.one-k.ensures.0 (ap (λ j. eqb (get_or a.waits.now j 0) a.w) e)
+    counted_more c.loop-i.invariant (omega (arith, c.loop-i-test.true)) c.one-k.ensures.0 (ap (λ j. eqb (get_or a.waits.now j 0) a.w) e)
 
 pub returns : goal.returns
-returns c = counted_all c.loop-x.invariant (omega (arith, c.requires, c.loop-x-test.false))
+returns c = counted_all c.loop-i.invariant c.loop-i-test.false

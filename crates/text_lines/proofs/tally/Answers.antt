@@ -1,19 +1,17 @@
 -- `text_lines::tally` meets its contract.
-use Rattle.std.proofs.Common.{ℕ, ◌≡◌, List, Bool, true, false, cond, eqb, refl, sym, ◌∙◌, arith, rules, suc, ◌+◌, count_by}
-use Rattle.std.proofs.lemmas.List.Recursion.{is_count_by}
-use Rattle.laws.specs.Fields.{count}
+use Rattle.laws.specs.Steps.{tallied_none, tallied_more, tallied_skip, tallied_end}
 use Rattle.text_lines.proofs.tally.Goals as goal
+use Rattle.text_lines.proofs.tally.Goals.{then-x-b, else-x-b}
 
--- counted as std counts
-count_is : (b : ℕ) (s : List ℕ) → count b s ≡ count_by (λ x. eqb x b) s
-unfolding count
-count_is b s = is_count_by (count b) (λ x. eqb x b) refl (λ x l. step (eqb x b) (count b l)) s
-  where
-    step : (t : Bool) (n : ℕ) → cond t (suc n) n ≡ cond t (1 + n) n
-    step true n = omega arith
-    step false n = refl
+pub loop-x-init : goal.loop-x-init
+loop-x-init c = tallied_none
+
+pub loop-x-preserved : goal.loop-x-preserved
+loop-x-preserved c =
+    elim c.if-x-b.branch [
+      | then-x-b w ↦ tallied_more c.loop-x.invariant c.loop-x-test.true w.if-x-b.true w.n-is
+      | else-x-b w ↦ tallied_skip c.loop-x.invariant c.loop-x-test.true w.if-x-b.false w.n-is
+    ]
 
 pub returns : goal.returns
-returns c =
-    let e : c.count.result ≡ count_by (λ x. eqb x c.args.b) c.args.s.now = search rules in
-    e ∙ sym (count_is _ _)
+returns c = tallied_end c.loop-x.invariant c.loop-x-test.false
